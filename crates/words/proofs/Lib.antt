@@ -1,0 +1,6 @@
+pub mod Truth
+pub mod Parts
+pub mod Table
+pub mod Masks
+pub mod Bytes
+pub mod Search

@@ -1,0 +1,100 @@
+-- What a search and a count say of each number, and how they go on by one.
+-- Assumes nothing.
+use mathlib.Core.Path.{_≡_, refl, sym, ap, _∙_}
+use mathlib.Core.Bool.{Bool, true, false}
+use mathlib.Core.Logic.{⊎-elim}
+use Prim.Native.Nat.{ℕ, zero, suc, _+_, _-_, _≤_, _<_}
+use native.Mathlib.Nat.{eq-or-lt-of-le}
+use native.Mathlib.Numerals.{add-one}
+use native.Mathlib.Omega.{arith}
+use Rattle.words.specs.Choice.{pick}
+use Rattle.words.specs.declared.Found.{Found}
+use Rattle.words.specs.declared.Found.the-variants.{At, Nothing}
+use Rattle.words.specs.Search.{lowest, count}
+use Rattle.words.proofs.Truth.{clash}
+
+-- k is the lowest number from i on and below n that passes
+pub record Lowest (p : ℕ → Bool) (n i k : ℕ) : Type 0 where
+  pub from : i ≤ k
+  pub below : k < n
+  pub passes : p k ≡ true
+  pub first : (j : ℕ) → i ≤ j → j < k → p j ≡ false
+
+module _ (p : ℕ → Bool) (n i : ℕ) where
+  one-more : i < n → n - i ≡ suc (n - (i + 1))
+  one-more h = omega arith
+
+  pub here : i < n → p i ≡ true → lowest p (n - i) i ≡ At i
+  unfolding lowest
+  here h e = rw (one-more h, e)
+
+  pub later : i < n → p i ≡ false → lowest p (n - i) i ≡ lowest p (n - (i + 1)) (i + 1)
+  unfolding lowest
+  later h e = rw (one-more h, e, add-one i)
+
+  pub nowhere : n ≤ i → lowest p (n - i) i ≡ Nothing
+  unfolding lowest
+  nowhere h = let z : n - i ≡ 0 = omega arith in rw z
+
+module _ (p : ℕ → Bool) (n : ℕ) where
+  at-step : (i k : ℕ) → i < n → lowest p (n - i) i ≡ At k → (lowest p (n - (i + 1)) (i + 1) ≡ At k → Lowest p n (i + 1) k)
+      → (t : Bool) → p i ≡ t → Lowest p n i k
+  at-step i k h e more true q =
+      let same : i ≡ k = cc (here p n i h q) in
+      record { from = omega arith; below = omega arith; passes = rw (← same) q; first = λ j a b. absurd (omega arith) }
+  at-step i k h e more false q =
+      let r = more (sym (later p n i h q) ∙ e) in
+      record {
+        from = omega (arith, r .from);
+        below = r .below;
+        passes = r .passes;
+        first = λ j a b. ⊎-elim (λ s. rw (← s) q) (λ l. r .first j (omega arith) b) (eq-or-lt-of-le a);
+      }
+
+  -- what is found is the lowest
+  found-by : (d i k : ℕ) → d + i ≡ n → lowest p (n - i) i ≡ At k → Lowest p n i k
+  found-by zero i k s e = let z : _≡_ {A = ℕ} 0 1 = cc (nowhere p n i (omega arith)) in absurd (omega arith)
+  found-by (suc d) i k s e = at-step i k (omega arith) e (λ g. found-by d (i + 1) k (omega arith) g) (p i) refl
+
+  pub found : (i k : ℕ) → i ≤ n → lowest p (n - i) i ≡ At k → Lowest p n i k
+  found i k h e = found-by (n - i) i k (omega arith) e
+
+  none-step : (i : ℕ) → i < n → lowest p (n - i) i ≡ Nothing
+      → (lowest p (n - (i + 1)) (i + 1) ≡ Nothing → (j : ℕ) → i + 1 ≤ j → j < n → p j ≡ false)
+      → (t : Bool) → p i ≡ t → (j : ℕ) → i ≤ j → j < n → p j ≡ false
+  none-step i h e more true q j a b = let z : _≡_ {A = ℕ} 0 1 = cc (here p n i h q) in absurd (omega arith)
+  none-step i h e more false q j a b =
+      ⊎-elim (λ s. rw (← s) q) (λ l. more (sym (later p n i h q) ∙ e) j (omega arith) b) (eq-or-lt-of-le a)
+
+  -- where nothing is found, none passes
+  none-by : (d i : ℕ) → d + i ≡ n → lowest p (n - i) i ≡ Nothing → (j : ℕ) → i ≤ j → j < n → p j ≡ false
+  none-by zero i s e j a b = absurd (omega arith)
+  none-by (suc d) i s e j a b = none-step i (omega arith) e (λ g k. none-by d (i + 1) (omega arith) g k) (p i) refl j a b
+
+  pub none : (i : ℕ) → i ≤ n → lowest p (n - i) i ≡ Nothing → (j : ℕ) → i ≤ j → j < n → p j ≡ false
+  none i h e = none-by (n - i) i (omega arith) e
+
+  -- and the other way round: where the lowest, or none, is known, so is what is found
+  is-found-by : (d i k : ℕ) → d + i ≡ n → Lowest p n i k → lowest p (n - i) i ≡ At k
+  is-found-by zero i k s l = absurd (omega (arith, l .from, l .below))
+  is-found-by (suc d) i k s l =
+      ⊎-elim (λ e. rw (← e) (here p n i (omega arith) (rw e (l .passes))))
+      (λ h. later p n i (omega arith) (l .first i (omega arith) h)
+      ∙ is-found-by d (i + 1) k (omega arith) (record { from = omega arith; below = l .below; passes = l .passes; first = λ j a b. l .first j (omega arith) b }))
+      (eq-or-lt-of-le (l .from))
+
+  pub is-found : (i k : ℕ) → Lowest p n i k → lowest p (n - i) i ≡ At k
+  is-found i k l = is-found-by (n - i) i k (omega (arith, l .from, l .below)) l
+
+  is-none-by : (d i : ℕ) → d + i ≡ n → ((j : ℕ) → i ≤ j → j < n → p j ≡ false) → lowest p (n - i) i ≡ Nothing
+  is-none-by zero i s f = nowhere p n i (omega arith)
+  is-none-by (suc d) i s f =
+      later p n i (omega arith) (f i (omega arith) (omega arith)) ∙ is-none-by d (i + 1) (omega arith) (λ j a b. f j (omega arith) b)
+
+  pub is-none : (i : ℕ) → i ≤ n → ((j : ℕ) → i ≤ j → j < n → p j ≡ false) → lowest p (n - i) i ≡ Nothing
+  is-none i h f = is-none-by (n - i) i (omega arith) f
+
+-- one number more
+pub count-more : (p : ℕ → Bool) (n : ℕ) → count p (n + 1) ≡ pick (p n) 1 0 + count p n
+unfolding count
+count-more p n = rw add-one

@@ -1,0 +1,52 @@
+-- Tests as equations.
+-- Assumes nothing.
+use mathlib.Core.Path.{_≡_, refl, sym, subst}
+use mathlib.Core.Bool.{Bool, true, false, not, _&&_, _||_}
+use mathlib.Core.Logic.{_⊎_, inl, inr}
+use Prim.Native.Nat.{ℕ}
+use native.Mathlib.Omega.{arith}
+use lib.Dec.{T, eqb, eqb-refl}
+use borrow.Author.Tests.{eqb-true, eq-eqb}
+
+-- what a computed test says
+pub passed : {b : Bool} → T b → b ≡ true
+passed {b = true} t = refl
+passed {b = false} t = absurd t
+
+pub clash {ℓ} : {A : Type ℓ} {b : Bool} → b ≡ true → b ≡ false → A
+clash p q = let z : _≡_ {A = ℕ} 0 1 = cc in absurd (omega arith)
+
+pub decided : (b : Bool) → (b ≡ true) ⊎ (b ≡ false)
+decided true = inl refl
+decided false = inr refl
+
+-- both tests of a conjunction passed
+pub left : (a b : Bool) → (a && b) ≡ true → a ≡ true
+left true b e = refl
+left false b e = e
+
+pub right : (a b : Bool) → (a && b) ≡ true → b ≡ true
+right true b e = e
+right false b e = clash e refl
+
+pub and-true : {a b : Bool} → a ≡ true → b ≡ true → (a && b) ≡ true
+and-true p q = simp (p, q)
+
+-- if the first passes, so does the second
+pub then-true : {a b : Bool} → (not a || b) ≡ true → a ≡ true → b ≡ true
+then-true {a = true} e p = e
+then-true {a = false} e p = clash p refl
+
+pub true-then : (a : Bool) {b : Bool} → (a ≡ true → b ≡ true) → (not a || b) ≡ true
+true-then true f = f refl
+true-then false f = refl
+
+-- two tests that pass together are equal
+pub same-test : (a b : Bool) → (a ≡ true → b ≡ true) → (b ≡ true → a ≡ true) → a ≡ b
+same-test true b f g = sym (f refl)
+same-test false true f g = g refl
+same-test false false f g = refl
+
+-- tests for equality of equations that hold together
+pub same-eqb : (a b c d : ℕ) → (a ≡ b → c ≡ d) → (c ≡ d → a ≡ b) → eqb a b ≡ eqb c d
+same-eqb a b c d f g = same-test (eqb a b) (eqb c d) (λ e. eq-eqb c d (f (eqb-true a b e))) (λ e. eq-eqb a b (g (eqb-true c d e)))

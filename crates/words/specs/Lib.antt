@@ -1,0 +1,5 @@
+pub mod Choice
+pub mod Parts
+pub mod Ranges
+pub mod Bytes
+pub mod Search

@@ -1,0 +1,25 @@
+-- Ranges of bits, and words that use no others.
+-- Assumes nothing.
+use Prim.Native.Nat.{ℕ, zero, suc}
+use mathlib.Core.Bool.{Bool, true, false, not, _&&_, _||_}
+use mathlib.Core.List.{List, [], _∷_}
+use lib.Dec.{leb}
+use Rattle.words.specs.Parts.{isSet}
+
+-- bits h down to l
+pub data Range : Type 0 where
+  bits : ℕ → ℕ → Range
+
+-- bit i lies in one of the ranges
+abbrev pub named : List Range → ℕ → Bool
+named [] i = false
+named (bits h l ∷ rs) i = (leb l i && leb i h) || named rs i
+
+-- a test passes at each number below n
+abbrev pub all : ℕ → (ℕ → Bool) → Bool
+all zero p = true
+all (suc n) p = p n && all n p
+
+-- each bit of the word w that is set lies in one of the ranges
+unfoldable pub onlyIn : List Range → ℕ → Bool
+onlyIn rs w = all 64 (λ i. not (isSet i w) || named rs i)

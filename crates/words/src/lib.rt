@@ -1,0 +1,74 @@
+// Words of 64 bits: powers of two, parts, and words in bytes; and what a search answers.
+ghost use mathlib.Core.Path.{_≡_};
+ghost use mathlib.Core.List.{[], _∷_};
+ghost use Prim.Native.Nat.{_+_, _-_, _^_, _≤_, _<_};
+ghost use lib.ListN.{length};
+ghost use Rattle.words.specs.Parts.{part, put};
+ghost use Rattle.words.specs.Bytes.{littleEndian, wordAt};
+
+// What a search finds.
+pub enum Found {
+    At(usize),
+    Nothing,
+}
+
+// The n-th power of two.
+pub fn power(n: u64) -> u64
+    requires { ⌜ n < 64 ⌝ }
+    ensures { λ r. ⌜ (r ≡ 2 ^ n) × (0 < r) ⌝ }
+{
+    1 << n
+}
+
+// The number in the bits h down to l of w.
+pub fn part(w: u64, h: u64, l: u64) -> u64
+    requires { ⌜ (l ≤ h) × (h < 64) × (h < l + 63) ⌝ }
+    ensures { λ r. ⌜ r ≡ part h l w ⌝ }
+{
+    (w >> l) % power(h + 1 - l)
+}
+
+// The word w with v in its bits h down to l.
+pub fn put(w: u64, h: u64, l: u64, v: u64) -> u64
+    requires { ⌜ (l ≤ h) × (h < 63) ⌝ }
+    ensures { λ r. ⌜ r ≡ put h l v w ⌝ }
+{
+    let top = power(h + 1);
+    w / top * top + (v % power(h + 1 - l) * power(l) + w % power(l))
+}
+
+fn wide(x: u8) -> u64
+    ensures { λ r. ⌜ (r ≡ x) × (r < 256) ⌝ }
+{
+    x as u64
+}
+
+fn joined(a: u8, b: u8, c: u8, d: u8, e: u8, f: u8, g: u8, h: u8) -> u64
+    ensures { λ r. ⌜ r ≡ littleEndian (a ∷ b ∷ c ∷ d ∷ e ∷ f ∷ g ∷ h ∷ []) ⌝ }
+{
+    wide(a)
+        + 0x100 * wide(b)
+        + 0x1_0000 * wide(c)
+        + 0x100_0000 * wide(d)
+        + 0x1_0000_0000 * wide(e)
+        + 0x100_0000_0000 * wide(f)
+        + 0x1_0000_0000_0000 * wide(g)
+        + 0x100_0000_0000_0000 * wide(h)
+}
+
+// The word of the eight bytes from `at` on.
+pub fn word_at(bytes: &[u8], at: usize) -> u64
+    requires { ⌜ at + 8 ≤ length (now bytes) ⌝ }
+    ensures { λ r. ⌜ r ≡ wordAt (now (bytes .entry)) at ⌝ }
+{
+    joined(
+        bytes[at],
+        bytes[at + 1],
+        bytes[at + 2],
+        bytes[at + 3],
+        bytes[at + 4],
+        bytes[at + 5],
+        bytes[at + 6],
+        bytes[at + 7],
+    )
+}
