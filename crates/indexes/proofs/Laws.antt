@@ -1,0 +1,109 @@
+-- What the layers above use of the indexes, in place of their text.
+-- Assumes nothing.
+use mathlib.Core.Path.{_≡_, refl, sym, ap, _∙_}
+use mathlib.Core.Bool.{Bool, true, _&&_}
+use Prim.Native.Nat.{ℕ, zero, suc, _+_, _-_, _%_, _^_, _≤_, _<_}
+use native.Mathlib.Nat.{mod-eq-of-lt, mod-lt, mod-le, mod-mod, mod-add-mod, add-mod-mod, le-of-lt}
+use native.Mathlib.Omega.{arith}
+use lib.Dec.{leb, ltb}
+use lib.Pow.{pow-pos}
+use borrow.Author.Tests.{ltb-true, lt-ltb, leb-true, le-leb}
+use Rattle.words.proofs.Truth.{left, right, and-true}
+use Rattle.indexes.specs.Indexes.{slots, turn, inRange, distance, slot, next, wellFormed}
+use Rattle.indexes.proofs.Rounds.{comes, the-way, mod-64}
+
+-- what the code computes: a difference that wraps at 2 ^ 64, and its remainder
+pub wraps : (n rd wr s : ℕ) → n < 63 → (s + rd) % 2 ^ 64 ≡ wr → s % turn n ≡ distance n rd wr
+unfolding distance
+wraps n rd wr s h e =
+    let t = turn n in
+    the-way t (s % t) (rd % t) wr (mod-lt s (pow-pos (n + 1))) (le-of-lt (mod-lt rd (pow-pos (n + 1))))
+    (mod-add-mod s t (rd % t) ∙ add-mod-mod s rd t ∙ sym (mod-64 (n + 1) (s + rd) (omega arith)) ∙ ap (λ (k : ℕ). k % t) e)
+
+module _ (n : ℕ) where
+  pub in-range : (i : ℕ) → inRange n i ≡ true → i < turn n
+  unfolding inRange
+  in-range i e = ltb-true i (turn n) e
+
+  pub distance-lt : (rd wr : ℕ) → distance n rd wr < turn n
+  unfolding distance
+  distance-lt rd wr = mod-lt (wr + turn n - rd % turn n) (pow-pos (n + 1))
+
+  -- the distance from rd on comes to wr
+  pub arrives : (rd wr : ℕ) → (distance n rd wr + rd) % turn n ≡ wr % turn n
+  unfolding distance
+  arrives rd wr =
+      let t = turn n in
+      mod-add-mod (wr + t - rd % t) t rd ∙ sym (add-mod-mod (wr + t - rd % t) rd t)
+      ∙ comes t (rd % t) wr (le-of-lt (mod-lt rd (pow-pos (n + 1))))
+
+  -- and is the only way below a turn that does
+  pub is-distance : (k rd wr : ℕ) → k < turn n → (k + rd) % turn n ≡ wr % turn n → distance n rd wr ≡ k
+  unfolding distance
+  is-distance k rd wr small e =
+      let t = turn n in
+      sym (the-way t k (rd % t) wr small (le-of-lt (mod-lt rd (pow-pos (n + 1)))) (add-mod-mod k rd t ∙ e))
+
+  -- exact across the wrap: k places on from rd, the distance is k
+  pub distance-ahead : (rd k : ℕ) → k < turn n → distance n rd ((k + rd) % turn n) ≡ k
+  distance-ahead rd k small = is-distance k rd ((k + rd) % turn n) small (sym (mod-mod (k + rd) (turn n)))
+
+  pub distance-self : (rd : ℕ) → distance n rd rd ≡ 0
+  distance-self rd = is-distance 0 rd rd (pow-pos (n + 1)) (ap (λ (k : ℕ). k % turn n) (let e : 0 + rd ≡ rd = omega arith in e))
+
+  -- one command fewer waits after the next index
+  pub distance-next : (rd wr d : ℕ) → distance n rd wr ≡ suc d → distance n (next n rd) wr ≡ d
+  unfolding next
+  distance-next rd wr d e =
+      let t = turn n in
+      is-distance d ((rd + 1) % t) wr (omega (arith, distance-lt rd wr))
+      (add-mod-mod d (rd + 1) t ∙ ap (λ (k : ℕ). k % t) (let s : d + (rd + 1) ≡ distance n rd wr + rd = omega arith in s) ∙ arrives rd wr)
+
+  pub next-lt : (rd : ℕ) → next n rd < turn n
+  unfolding next
+  next-lt rd = mod-lt (rd + 1) (pow-pos (n + 1))
+
+  pub slot-lt : (rd : ℕ) → slot n rd < slots n
+  unfolding slot
+  slot-lt rd = mod-lt rd (pow-pos n)
+
+-- the indexes as a record of what well formed says
+pub record Formed (n rd wr : ℕ) : Type 0 where
+  pub rd-in : rd < turn n
+  pub wr-in : wr < turn n
+  pub apart : distance n rd wr ≤ slots n
+
+module _ (n rd wr : ℕ) where
+  pub formed : wellFormed n rd wr ≡ true → Formed n rd wr
+  unfolding wellFormed
+  formed e =
+      let ranges = left (inRange n rd && inRange n wr) (leb (distance n rd wr) (slots n)) e in
+      record {
+        rd-in = in-range n rd (left (inRange n rd) (inRange n wr) ranges);
+        wr-in = in-range n wr (right (inRange n rd) (inRange n wr) ranges);
+        apart = leb-true (distance n rd wr) (slots n) (right (inRange n rd && inRange n wr) (leb (distance n rd wr) (slots n)) e)
+      }
+
+  pub is-formed : Formed n rd wr → wellFormed n rd wr ≡ true
+  unfolding wellFormed inRange
+  is-formed f =
+      and-true (and-true (lt-ltb rd (turn n) (f .rd-in)) (lt-ltb wr (turn n) (f .wr-in))) (le-leb (distance n rd wr) (slots n) (f .apart))
+
+  -- in range, nothing waits only where the indexes are equal
+  pub none-waits : rd < turn n → wr < turn n → distance n rd wr ≡ 0 → rd ≡ wr
+  none-waits in-rd in-wr e =
+      sym (mod-eq-of-lt in-rd) ∙ ap (λ (k : ℕ). k % turn n) (let s : rd ≡ distance n rd wr + rd = omega arith in s)
+      ∙ arrives n rd wr ∙ mod-eq-of-lt in-wr
+
+-- a command may be consumed where one waits
+pub formed-next : (n rd wr : ℕ) → Formed n rd wr → (rd ≡ wr → ⊥) → Formed n (next n rd) wr
+formed-next n rd wr f some =
+    record {
+      rd-in = next-lt n rd;
+      wr-in = f .wr-in;
+      apart = shorter (distance n rd wr) refl
+    }
+  where
+    shorter : (d : ℕ) → distance n rd wr ≡ d → distance n (next n rd) wr ≤ slots n
+    shorter zero e = absurd (some (none-waits n rd wr (f .rd-in) (f .wr-in) e))
+    shorter (suc d) e = rw (distance-next n rd wr d e) (omega (arith, f .apart))
