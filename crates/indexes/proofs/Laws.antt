@@ -81,7 +81,7 @@ module _ (n rd wr : ℕ) where
       record {
         rd-in = in-range n rd (left (inRange n rd) (inRange n wr) ranges);
         wr-in = in-range n wr (right (inRange n rd) (inRange n wr) ranges);
-        apart = leb-true (distance n rd wr) (slots n) (right (inRange n rd && inRange n wr) (leb (distance n rd wr) (slots n)) e)
+        apart = leb-true (distance n rd wr) (slots n) (right (inRange n rd && inRange n wr) (leb (distance n rd wr) (slots n)) e);
       }
 
   pub is-formed : Formed n rd wr → wellFormed n rd wr ≡ true
@@ -101,7 +101,7 @@ formed-next n rd wr f some =
     record {
       rd-in = next-lt n rd;
       wr-in = f .wr-in;
-      apart = shorter (distance n rd wr) refl
+      apart = shorter (distance n rd wr) refl;
     }
   where
     shorter : (d : ℕ) → distance n rd wr ≡ d → distance n (next n rd) wr ≤ slots n

@@ -3,13 +3,14 @@
 use mathlib.Core.Path.{_≡_, refl, sym, ap, _∙_, subst}
 use mathlib.Core.Bool.{Bool, true, false, _&&_, _||_}
 use Prim.Native.Nat.{ℕ, _+_, _-_, _*_, _/_, _%_, _^_, _≤_, _<_}
-use native.Mathlib.Nat.{mod-lt, lt-of-lt-of-le}
+use native.Mathlib.Nat.{mod-lt, mod-eq-of-lt, lt-of-lt-of-le}
 use native.Mathlib.Omega.{arith}
 use lib.Arith.{digits-lt}
 use lib.Dec.{T, ltb, leb}
 use borrow.Author.Tests.{leb-true, ltb-true}
 use lib.Pow.{pow-pos, pow-mono, pow-add, shr-shr, shr-lt, high, low, field, mod-mod-pow}
 use Rattle.words.specs.Parts.{part, put}
+use Rattle.words.specs.Ranges.{Range, bits, get, set}
 use Rattle.words.proofs.Truth.{left, right, passed}
 
 pub part-lt : (h l w : ℕ) → part h l w < 2 ^ (h + 1 - l)
@@ -88,13 +89,17 @@ module _ (h l : ℕ) (ordered : l ≤ h) (v w : ℕ) where
       (cut (whole (h + 1 - l) l v w)
       ∙ ap (λ (x : ℕ). x % 2 ^ ((h′ + 1 - l′) + l′) / 2 ^ l′) (bottom (h + 1 - l) l v w) ∙ sym (cut w))
 
--- two parts that share no bit
-abbrev pub apart : ℕ → ℕ → ℕ → ℕ → Bool
-apart h l h′ l′ = leb l h && leb l′ h′ && (ltb h l′ || ltb h′ l)
+-- a number that fits is read back
+pub reads-back : (h l v w : ℕ) → l ≤ h → v < 2 ^ (h + 1 - l) → part h l (put h l v w) ≡ v
+reads-back h l v w ordered fit = put-same h l ordered v w ∙ mod-eq-of-lt fit
+
+-- two ranges, each with its high bit first, that share no bit
+abbrev pub apart : Range → Range → Bool
+apart (bits h l) (bits h′ l′) = leb l h && leb l′ h′ && (ltb h l′ || ltb h′ l)
 
 -- every other part stays
-pub put-other : (h l v w h′ l′ : ℕ) → T (apart h l h′ l′) → part h′ l′ (put h l v w) ≡ part h′ l′ w
-put-other h l v w h′ l′ t = side (ltb h l′) refl
+pub keeps : (r : Range) (v w : ℕ) (r′ : Range) → T (apart r r′) → get r′ (set r v w) ≡ get r′ w
+keeps (bits h l) v w (bits h′ l′) t = side (ltb h l′) refl
   where
     ordered : (leb l h && leb l′ h′) ≡ true
     ordered = left (leb l h && leb l′ h′) (ltb h l′ || ltb h′ l) (passed t)

@@ -4,11 +4,18 @@ use Prim.Native.Nat.{ℕ, zero, suc}
 use mathlib.Core.Bool.{Bool, true, false, not, _&&_, _||_}
 use mathlib.Core.List.{List, [], _∷_}
 use lib.Dec.{leb}
-use Rattle.words.specs.Parts.{isSet}
+use Rattle.words.specs.Parts.{part, isSet, put}
 
 -- bits h down to l
 pub data Range : Type 0 where
   bits : ℕ → ℕ → Range
+
+-- the number in them, and the word with another number in them
+abbrev pub get : Range → ℕ → ℕ
+get (bits h l) w = part h l w
+
+abbrev pub set : Range → ℕ → ℕ → ℕ
+set (bits h l) v w = put h l v w
 
 -- bit i lies in one of the ranges
 abbrev pub named : List Range → ℕ → Bool

@@ -1,0 +1,13 @@
+-- `control::stores::acknowledged` meets its contract.
+-- Assumes nothing.
+use Rattle.control.specs.Stores.{acknowledged}
+use borrow.Author.Needs.{needs}
+use Rattle.control.proofs.stores.acknowledged.Statement.{statement}
+use Rattle.control.proofs.stores.acknowledged.Tie as tie
+
+returns : tie.Need-returns
+unfolding acknowledged
+returns c = cc
+
+pub acknowledged-spec : {M : Type 1} → statement M
+acknowledged-spec = tie.close (tie.spec (λ c κs. search needs) (λ c κs. search needs) returns)

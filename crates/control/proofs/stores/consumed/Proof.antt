@@ -1,0 +1,14 @@
+-- `control::stores::consumed` meets its contract.
+-- Assumes nothing.
+use Rattle.control.specs.Stores.{consumed}
+use borrow.Author.Needs.{needs}
+use Rattle.control.proofs.stores.consumed.Statement.{statement}
+use Rattle.control.proofs.stores.consumed.Tie as tie
+
+returns : tie.Need-returns
+unfolding consumed
+returns c = cc
+
+pub consumed-spec : {M : Type 1} → statement M
+consumed-spec =
+    tie.close (tie.spec (λ c κs. search needs) (λ c κs. search needs) (λ c κs. search needs) (λ c κs. search needs) returns)

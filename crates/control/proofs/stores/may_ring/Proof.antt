@@ -1,0 +1,23 @@
+-- `control::stores::may_ring` meets its contract.
+-- Assumes nothing.
+use Rattle.control.specs.Control.{distance}
+use Rattle.control.specs.Stores.{mayRing}
+use borrow.Author.Needs.{needs}
+use Rattle.control.proofs.stores.may_ring.Statement.{statement}
+use Rattle.control.proofs.stores.may_ring.Tie as tie
+
+returns : tie.Need-returns
+unfolding mayRing distance
+returns c = cc
+
+pub may-ring-spec : {M : Type 1} → statement M
+may-ring-spec =
+    tie.close
+    (tie.spec
+    (λ c κs. search needs)
+    (λ c κs. search needs)
+    (λ c κs. search needs)
+    (λ c κs. search needs)
+    (λ c κs. search needs)
+    (λ c κs. search needs)
+    returns)

@@ -1,0 +1,13 @@
+-- `control::stores::raised` meets its contract.
+-- Assumes nothing.
+use Rattle.control.specs.Stores.{raised}
+use borrow.Author.Needs.{needs}
+use Rattle.control.proofs.stores.raised.Statement.{statement}
+use Rattle.control.proofs.stores.raised.Tie as tie
+
+returns : tie.Need-returns
+unfolding raised
+returns c = cc
+
+pub raised-spec : {M : Type 1} → statement M
+raised-spec = tie.close (tie.spec (λ c κs. search needs) (λ c κs. search needs) (λ c. search needs) (λ c κs. search needs) returns)

@@ -1,0 +1,23 @@
+-- `control::word::fields_of` meets its contract.
+-- Assumes nothing.
+use Rattle.control.specs.Control.{fieldsOf}
+use borrow.Author.Needs.{needs}
+use Rattle.control.proofs.word.fields_of.Statement.{statement}
+use Rattle.control.proofs.word.fields_of.Tie as tie
+
+returns : tie.Need-returns
+unfolding fieldsOf
+returns c = cc
+
+pub fields-of-spec : {M : Type 1} → statement M
+fields-of-spec =
+    tie.close
+    (tie.spec
+    (λ c κs. search needs)
+    (λ c κs. search needs)
+    (λ c κs. search needs)
+    (λ c κs. search needs)
+    (λ c κs. search needs)
+    (λ c κs. search needs)
+    (λ c κs. search needs)
+    returns)

@@ -1,0 +1,13 @@
+-- `control::word::slot_of` meets its contract.
+-- Assumes nothing.
+use Rattle.control.specs.Control.{slot}
+use borrow.Author.Needs.{needs}
+use Rattle.control.proofs.word.slot_of.Statement.{statement}
+use Rattle.control.proofs.word.slot_of.Tie as tie
+
+returns : tie.Need-returns
+unfolding slot
+returns c = cc
+
+pub slot-of-spec : {M : Type 1} → statement M
+slot-of-spec = tie.close (tie.spec (λ c κs. search needs) (λ c κs. search needs) (λ c κs. search needs) returns)

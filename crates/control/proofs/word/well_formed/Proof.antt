@@ -1,0 +1,25 @@
+-- `control::word::well_formed` meets its contract.
+-- Assumes nothing.
+use Rattle.control.specs.Control.{wellFormed}
+use borrow.Author.Needs.{needs}
+use Rattle.control.proofs.word.well_formed.Statement.{statement}
+use Rattle.control.proofs.word.well_formed.Tie as tie
+
+returns : tie.Need-returns
+unfolding wellFormed
+returns c = cc
+
+pub well-formed-spec : {M : Type 1} → statement M
+well-formed-spec =
+    tie.close
+    (tie.spec
+    (λ c κs. search needs)
+    (λ c κs. search needs)
+    (λ c κs. search needs)
+    (λ c κs. search needs)
+    (λ c κs. search needs)
+    (λ c κs. search needs)
+    (λ c κs. search needs)
+    (λ c κs. search needs)
+    (λ c κs. search needs)
+    returns)

@@ -1,0 +1,39 @@
+// The control word: its parts, what it lets a run do, and the word after each single store.
+mod stores;
+mod word;
+
+pub use stores::acknowledged;
+pub use stores::consumed;
+pub use stores::may_ring;
+pub use stores::raised;
+pub use stores::rung;
+pub use stores::switched;
+pub use word::active;
+pub use word::fields_of;
+pub use word::slot_of;
+pub use word::standing_of;
+pub use word::well_formed;
+
+// Why a run does nothing more.
+pub enum Rest {
+    Off,
+    Held,
+    Empty,
+}
+
+// What the control word says to a run: rest, or take the command at RD.
+pub enum Standing {
+    Resting(Rest),
+    Open,
+}
+
+// The parts of the control word.
+pub struct Fields {
+    pub rd: u64,
+    pub wr: u64,
+    pub err: u64,
+    pub gerror: u64,
+    pub gerrorn: u64,
+    pub cmdqen: u64,
+    pub log2size: u64,
+}

@@ -1,0 +1,104 @@
+// Document 01, The kept memory: the control word.
+use crate::Fields;
+use crate::Rest;
+use crate::Standing;
+ghost use mathlib.Core.Path.{_≡_};
+ghost use Prim.Native.Nat.{_≤_, _<_};
+ghost use Rattle.control.specs.Control.{rd, wr, err, gerror, gerrorn, cmdqen, log2size, fieldsOf, active, wellFormed, standing, slot};
+
+// The largest LOG2SIZE.
+const MAX_LOG2: u64 = 8;
+
+pub fn rd_of(w: u64) -> u64
+    ensures { λ r. ⌜ r ≡ rd w ⌝ }
+{
+    words::part(w, 19, 0)
+}
+
+pub fn wr_of(w: u64) -> u64
+    ensures { λ r. ⌜ r ≡ wr w ⌝ }
+{
+    words::part(w, 39, 20)
+}
+
+fn err_of(w: u64) -> u64
+    ensures { λ r. ⌜ r ≡ err w ⌝ }
+{
+    words::part(w, 46, 40)
+}
+
+pub fn gerror_of(w: u64) -> u64
+    ensures { λ r. ⌜ (r ≡ gerror w) × (r ≤ 1) ⌝ }
+{
+    words::part(w, 47, 47)
+}
+
+fn gerrorn_of(w: u64) -> u64
+    ensures { λ r. ⌜ r ≡ gerrorn w ⌝ }
+{
+    words::part(w, 48, 48)
+}
+
+fn cmdqen_of(w: u64) -> u64
+    ensures { λ r. ⌜ r ≡ cmdqen w ⌝ }
+{
+    words::part(w, 49, 49)
+}
+
+// Five bits, so that a queue's indexes are within the machine's reach before the limit is tested.
+pub fn log2size_of(w: u64) -> u64
+    ensures { λ r. ⌜ (r ≡ log2size w) × (r < 32) ⌝ }
+{
+    words::part(w, 54, 50)
+}
+
+pub fn fields_of(w: u64) -> Fields
+    ensures { λ r. ⌜ r ≡ fieldsOf w ⌝ }
+{
+    Fields {
+        rd: rd_of(w),
+        wr: wr_of(w),
+        err: err_of(w),
+        gerror: gerror_of(w),
+        gerrorn: gerrorn_of(w),
+        cmdqen: cmdqen_of(w),
+        log2size: log2size_of(w),
+    }
+}
+
+pub fn active(w: u64) -> bool
+    ensures { λ r. ⌜ r ≡ active w ⌝ }
+{
+    !(gerror_of(w) == gerrorn_of(w))
+}
+
+pub fn well_formed(w: u64) -> bool
+    ensures { λ r. ⌜ r ≡ wellFormed w ⌝ }
+{
+    (words::part(w, 63, 55) == 0)
+        & (log2size_of(w) <= MAX_LOG2)
+        & indexes::well_formed(log2size_of(w), rd_of(w), wr_of(w))
+        & (err_of(w) <= 1)
+        & (!active(w) | (err_of(w) == 1))
+}
+
+pub fn standing_of(w: u64) -> Standing
+    ensures { λ r. ⌜ r ≡ standing w ⌝ }
+{
+    if cmdqen_of(w) == 0 {
+        return Standing::Resting(Rest::Off);
+    }
+    if active(w) {
+        return Standing::Resting(Rest::Held);
+    }
+    if rd_of(w) == wr_of(w) {
+        return Standing::Resting(Rest::Empty);
+    }
+    Standing::Open
+}
+
+pub fn slot_of(w: u64) -> u64
+    ensures { λ r. ⌜ r ≡ slot w ⌝ }
+{
+    indexes::slot(log2size_of(w), rd_of(w))
+}
