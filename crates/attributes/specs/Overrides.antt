@@ -51,10 +51,13 @@ overridden o a =
       hints = overrideHints (o .alloccfg) (a .memattr) (overrideMemAttr o (a .memattr)) (a .hints);
     }
 
--- INSTCFG 2 data, 3 instruction, else incoming; a write is always data
-unfoldable pub instruction : ℕ → Bool → Bool → Bool
-instruction instcfg write incoming = not write && pick (eqb instcfg 2) false (pick (eqb instcfg 3) true incoming)
+-- INSTCFG and PRIVCFG: 2 forces the flag off, 3 on, else incoming
+unfoldable pub forced : ℕ → Bool → Bool
+forced cfg incoming = pick (eqb cfg 2) false (pick (eqb cfg 3) true incoming)
 
--- PRIVCFG 2 unprivileged, 3 privileged, else incoming
-unfoldable pub privileged : ℕ → Bool → Bool
-privileged privcfg incoming = pick (eqb privcfg 2) false (pick (eqb privcfg 3) true incoming)
+-- a write is always data
+abbrev pub instruction : ℕ → Bool → Bool → Bool
+instruction instcfg write incoming = not write && forced instcfg incoming
+
+abbrev pub privileged : ℕ → Bool → Bool
+privileged privcfg incoming = forced privcfg incoming

@@ -1,7 +1,8 @@
 // Document 01, The kept memory: MemAttr, SH and hints.
 use crate::Attributes;
 ghost use mathlib.Core.Path.{_≡_};
-ghost use Rattle.attributes.specs.Formats.{outerCached, innerCached, memAttrFormed, shFormed, hintsFormed, wellFormed};
+ghost use Prim.Native.Nat.{_<_};
+ghost use Rattle.attributes.specs.Formats.{outerCached, innerCached, innerHints, outerHints, joinHints, memAttrFormed, shFormed, hintsFormed, wellFormed};
 
 pub fn outer_cached(m: u64) -> bool
     ensures { λ r. ⌜ r ≡ outerCached m ⌝ }
@@ -13,6 +14,25 @@ pub fn inner_cached(m: u64) -> bool
     ensures { λ r. ⌜ r ≡ innerCached m ⌝ }
 {
     !(m < 4) & (2 <= words::part(m, 1, 0))
+}
+
+pub fn inner_hints(h: u64) -> u64
+    ensures { λ r. ⌜ (r ≡ innerHints h) × (r < 8) ⌝ }
+{
+    words::part(h, 2, 0)
+}
+
+pub fn outer_hints(h: u64) -> u64
+    ensures { λ r. ⌜ (r ≡ outerHints h) × (r < 8) ⌝ }
+{
+    words::part(h, 5, 3)
+}
+
+pub fn join_hints(i: u64, o: u64) -> u64
+    requires { ⌜ (i < 8) × (o < 8) ⌝ }
+    ensures { λ r. ⌜ r ≡ joinHints i o ⌝ }
+{
+    i + 8 * o
 }
 
 pub fn mem_attr_formed(m: u64) -> bool
@@ -30,9 +50,7 @@ pub fn sh_formed(s: u64) -> bool
 pub fn hints_formed(m: u64, h: u64) -> bool
     ensures { λ r. ⌜ r ≡ hintsFormed m h ⌝ }
 {
-    (h < 64)
-        & (inner_cached(m) | (words::part(h, 2, 0) == 0))
-        & (outer_cached(m) | (words::part(h, 5, 3) == 0))
+    (h < 64) & (inner_cached(m) | (inner_hints(h) == 0)) & (outer_cached(m) | (outer_hints(h) == 0))
 }
 
 pub fn well_formed(a: Attributes) -> bool

@@ -1,15 +1,15 @@
 // Memory attributes: what is well formed, the overrides of an STE row, and the final rule.
 mod formats;
-mod overrides;
+mod overriding;
 mod settling;
 
 pub use formats::hints_formed;
 pub use formats::mem_attr_formed;
 pub use formats::sh_formed;
 pub use formats::well_formed;
-pub use overrides::instruction;
-pub use overrides::overridden;
-pub use overrides::privileged;
+pub use overriding::instruction;
+pub use overriding::overridden;
+pub use overriding::privileged;
 pub use settling::settled;
 
 // The attributes of an access: MemAttr, SH and hints.

@@ -1,4 +1,5 @@
 // The control word: its parts, what it lets a run do, and the word after each single store.
+mod places;
 mod stores;
 mod word;
 

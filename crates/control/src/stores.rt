@@ -1,4 +1,5 @@
 // Document 01, One run: the control word after each single store.
+use crate::places;
 use crate::word::gerror_of;
 use crate::word::log2size_of;
 use crate::word::rd_of;
@@ -9,13 +10,23 @@ ghost use Rattle.control.specs.Stores.{consumed, raised, mayRing, rung, 
 pub fn consumed(w: u64) -> u64
     ensures { λ r. ⌜ r ≡ consumed w ⌝ }
 {
-    words::put(w, 19, 0, indexes::next(log2size_of(w), rd_of(w)))
+    words::put(
+        w,
+        places::RD_HIGH,
+        places::RD_LOW,
+        indexes::next(log2size_of(w), rd_of(w)),
+    )
 }
 
 pub fn raised(w: u64) -> u64
     ensures { λ r. ⌜ r ≡ raised w ⌝ }
 {
-    words::put(words::put(w, 46, 40, 1), 47, 47, 1 - gerror_of(w))
+    words::put(
+        words::put(w, places::ERR_HIGH, places::ERR_LOW, 1),
+        places::GERROR_HIGH,
+        places::GERROR_LOW,
+        1 - gerror_of(w),
+    )
 }
 
 // Whether WR may become v.
@@ -31,20 +42,20 @@ pub fn may_ring(w: u64, v: u64) -> bool
 pub fn rung(w: u64, v: u64) -> u64
     ensures { λ r. ⌜ r ≡ rung w v ⌝ }
 {
-    words::put(w, 39, 20, v)
+    words::put(w, places::WR_HIGH, places::WR_LOW, v)
 }
 
 pub fn acknowledged(w: u64) -> u64
     ensures { λ r. ⌜ r ≡ acknowledged w ⌝ }
 {
-    words::put(w, 48, 48, gerror_of(w))
+    words::put(w, places::GERRORN_HIGH, places::GERRORN_LOW, gerror_of(w))
 }
 
 pub fn switched(w: u64, on: bool) -> u64
     ensures { λ r. ⌜ r ≡ switched w on ⌝ }
 {
     if on {
-        return words::put(w, 49, 49, 1);
+        return words::put(w, places::CMDQEN_HIGH, places::CMDQEN_LOW, 1);
     }
-    words::put(w, 49, 49, 0)
+    words::put(w, places::CMDQEN_HIGH, places::CMDQEN_LOW, 0)
 }

@@ -2,6 +2,7 @@
 use crate::Fields;
 use crate::Rest;
 use crate::Standing;
+use crate::places;
 ghost use mathlib.Core.Path.{_≡_};
 ghost use Prim.Native.Nat.{_≤_, _<_};
 ghost use Rattle.control.specs.Control.{rd, wr, err, gerror, gerrorn, cmdqen, log2size, fieldsOf, active, wellFormed, standing, slot};
@@ -12,37 +13,37 @@ const MAX_LOG2: u64 = 8;
 pub fn rd_of(w: u64) -> u64
     ensures { λ r. ⌜ r ≡ rd w ⌝ }
 {
-    words::part(w, 19, 0)
+    words::part(w, places::RD_HIGH, places::RD_LOW)
 }
 
 pub fn wr_of(w: u64) -> u64
     ensures { λ r. ⌜ r ≡ wr w ⌝ }
 {
-    words::part(w, 39, 20)
+    words::part(w, places::WR_HIGH, places::WR_LOW)
 }
 
 fn err_of(w: u64) -> u64
     ensures { λ r. ⌜ r ≡ err w ⌝ }
 {
-    words::part(w, 46, 40)
+    words::part(w, places::ERR_HIGH, places::ERR_LOW)
 }
 
 pub fn gerror_of(w: u64) -> u64
     ensures { λ r. ⌜ (r ≡ gerror w) × (r ≤ 1) ⌝ }
 {
-    words::part(w, 47, 47)
+    words::part(w, places::GERROR_HIGH, places::GERROR_LOW)
 }
 
 fn gerrorn_of(w: u64) -> u64
     ensures { λ r. ⌜ r ≡ gerrorn w ⌝ }
 {
-    words::part(w, 48, 48)
+    words::part(w, places::GERRORN_HIGH, places::GERRORN_LOW)
 }
 
 fn cmdqen_of(w: u64) -> u64
     ensures { λ r. ⌜ r ≡ cmdqen w ⌝ }
 {
-    words::part(w, 49, 49)
+    words::part(w, places::CMDQEN_HIGH, places::CMDQEN_LOW)
 }
 
 // Five bits, so that a queue's indexes are within the machine's reach before the limit is tested.

@@ -1,0 +1,15 @@
+-- `rows::fields::overrides_of` meets its contract.
+-- Assumes nothing.
+use Rattle.rows.specs.Rows.{overridesOf}
+use borrow.Author.Needs.{needs}
+use Rattle.rows.proofs.fields.overrides_of.Statement.{statement}
+use Rattle.rows.proofs.fields.overrides_of.Tie as tie
+
+returns : tie.Need-returns
+unfolding overridesOf
+returns c = cc
+
+pub overrides-of-spec : {M : Type 1} → statement M
+overrides-of-spec =
+    tie.close
+    (tie.spec (λ c κs. search needs) (λ c κs. search needs) (λ c κs. search needs) (λ c κs. search needs) returns)

@@ -1,0 +1,25 @@
+-- `rows::formed::only_named` meets its contract.
+-- Assumes nothing.
+use Rattle.rows.specs.WellFormed.{onlyNamed}
+use borrow.Author.Needs.{needs}
+use Rattle.rows.proofs.formed.only_named.Statement.{statement}
+use Rattle.rows.proofs.formed.only_named.Tie as tie
+
+returns : tie.Need-returns
+unfolding onlyNamed
+returns c = cc
+
+pub only-named-spec : {M : Type 1} → statement M
+only-named-spec =
+    tie.close
+    (tie.spec
+    (λ c κs. search needs)
+    (λ c. search needs)
+    (λ c κs. search needs)
+    (λ c. search needs)
+    (λ c κs. search needs)
+    (λ c. search needs)
+    (λ c κs. search needs)
+    (λ c. search needs)
+    (λ c κs. search needs)
+    returns)

@@ -1,0 +1,35 @@
+-- `rows::formed::ste_good` meets its contract.
+-- Assumes nothing.
+use mathlib.Core.Path.{sym, _∙_}
+use Rattle.rows.specs.WellFormed.{steGood}
+use borrow.Author.Needs.{needs}
+use Rattle.rows.proofs.formed.ste_good.Statement.{statement}
+use Rattle.rows.proofs.formed.ste_good.Tie as tie
+
+returns : tie.Need-returns
+unfolding steGood
+returns c =
+    let s = c .before .before .before .before in
+    rw (sym (s .before .is-last .ensures) ∙ s .if1 .taken) (cc)
+
+returns-2 : tie.Need-returns-2
+unfolding steGood
+returns-2 c =
+    let s = c .before .before .before in
+    rw (sym (s .before .is-last .ensures) ∙ s .if1 .left) (cc)
+
+pub ste-good-spec : {M : Type 1} → statement M
+ste-good-spec =
+    tie.close
+    (tie.spec
+    (λ c κs. search needs)
+    (λ c κs. search needs)
+    (λ c κs. search needs)
+    (λ c κs. search needs)
+    (λ c κs. search needs)
+    returns
+    (λ c κs. search needs)
+    (λ c κs. search needs)
+    (λ c κs. search needs)
+    (λ c. search needs)
+    returns-2)

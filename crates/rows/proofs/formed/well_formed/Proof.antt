@@ -1,0 +1,13 @@
+-- `rows::formed::well_formed` meets its contract.
+-- Assumes nothing.
+use Rattle.rows.specs.WellFormed.{wellFormed}
+use borrow.Author.Needs.{needs}
+use Rattle.rows.proofs.formed.well_formed.Statement.{statement}
+use Rattle.rows.proofs.formed.well_formed.Tie as tie
+
+returns : tie.Need-returns
+unfolding wellFormed
+returns c = cc
+
+pub well-formed-spec : {M : Type 1} → statement M
+well-formed-spec = tie.close (tie.spec (λ c κs. search needs) (λ c κs. search needs) (λ c κs. search needs) returns)

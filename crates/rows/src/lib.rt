@@ -1,0 +1,32 @@
+// The rows of cached structures: four words, their parts, and which are well formed.
+mod fields;
+mod formed;
+
+pub use fields::attributes_of;
+pub use fields::covers;
+pub use fields::overrides_of;
+pub use fields::parts_of;
+pub use formed::well_formed;
+
+// The four words of a row.
+pub struct Row {
+    pub w0: u64,
+    pub w1: u64,
+    pub w2: u64,
+    pub w3: u64,
+}
+
+// The parts of words 0 and 1, but for the attributes.
+pub struct Parts {
+    pub kind: u64,
+    pub last: bool,
+    pub global: bool,
+    pub span: u64,
+    pub vmid: u64,
+    pub asid: u64,
+    pub stream: u64,
+    pub substream: u64,
+    pub config: u64,
+    pub instcfg: u64,
+    pub privcfg: u64,
+}
