@@ -94,7 +94,29 @@ module _ (p : ℕ → Bool) (n : ℕ) where
   pub is-none : (i : ℕ) → i ≤ n → ((j : ℕ) → i ≤ j → j < n → p j ≡ false) → lowest p (n - i) i ≡ Nothing
   is-none i h f = is-none-by (n - i) i (omega arith) f
 
--- one number more
-pub count-more : (p : ℕ → Bool) (n : ℕ) → count p (n + 1) ≡ pick (p n) 1 0 + count p n
+-- a search from 0 on, as the laws above have it
+pub from-zero : (p : ℕ → Bool) (n : ℕ) → lowest p n 0 ≡ lowest p (n - 0) 0
+from-zero p n = ap (λ (k : ℕ). lowest p k 0) (let e : n ≡ n - 0 = omega arith in e)
+
+-- a count goes on by one
+module _ (p : ℕ → Bool) (n : ℕ) where
+  pub count-here : p n ≡ true → count p (n + 1) ≡ count p n + 1
+  unfolding count
+  count-here e = rw (add-one n, e) (omega arith)
+
+  pub count-past : p n ≡ false → count p (n + 1) ≡ count p n
+  unfolding count
+  count-past e = rw (add-one n, e) (omega arith)
+
+pub count-none : (p : ℕ → Bool) → count p 0 ≡ 0
 unfolding count
-count-more p n = rw add-one
+count-none p = refl
+
+at-most : (b : Bool) (k n : ℕ) → k ≤ n → pick b 1 0 + k ≤ suc n
+at-most true k n h = omega arith
+at-most false k n h = omega arith
+
+pub count-le : (p : ℕ → Bool) (n : ℕ) → count p n ≤ n
+unfolding count
+count-le p zero = omega arith
+count-le p (suc n) = at-most (p n) (count p n) n (count-le p n)

@@ -1,0 +1,13 @@
+-- `image::is_bad` meets its contract.
+-- Assumes nothing.
+use Rattle.image.specs.Image.{isBad}
+use borrow.Author.Needs.{needs}
+use Rattle.image.proofs.is_bad.Statement.{statement}
+use Rattle.image.proofs.is_bad.Tie as tie
+
+returns : tie.Need-returns
+unfolding isBad
+returns c = cc
+
+pub is-bad-spec : {M : Type 1} → statement M
+is-bad-spec = tie.close (tie.spec (λ c κs. search needs) (λ c κs. search needs) returns)

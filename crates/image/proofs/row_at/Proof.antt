@@ -1,0 +1,29 @@
+-- `image::row_at` meets its contract.
+-- Assumes nothing.
+use Rattle.image.specs.Image.{rowAt}
+use borrow.Author.Needs.{needs}
+use Rattle.image.proofs.row_at.Statement.{statement}
+use Rattle.image.proofs.row_at.Tie as tie
+
+returns : tie.Need-returns
+unfolding rowAt
+returns c = cc
+
+pub row-at-spec : {M : Type 1} → statement M
+row-at-spec =
+    tie.close
+    (tie.spec
+    (λ c. search needs)
+    (λ c. search needs)
+    (λ c. search needs)
+    (λ c. search needs)
+    (λ c. search needs)
+    (λ c. search needs)
+    (λ c. search needs)
+    (λ c. search needs)
+    (λ c. search needs)
+    (λ c. search needs)
+    (λ c. search needs)
+    (λ c. search needs)
+    (λ c. search needs)
+    returns)
