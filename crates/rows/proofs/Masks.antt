@@ -8,7 +8,7 @@ use lib.Bits.{bitAnd}
 use lib.Dec.{eqb}
 use lib.ListN.{getD}
 use Rattle.words.specs.Parts.{isSet}
-use Rattle.words.specs.Ranges.{onlyIn}
+use Rattle.words.specs.Ranges.{named, onlyIn}
 use Rattle.words.proofs.Table.{entry}
 use Rattle.words.proofs.Masks.{exact, masked}
 use Rattle.rows.specs.WellFormed.{namedParts}
@@ -26,8 +26,8 @@ masks =
     ∷ []
 
 right : ℕ → ℕ → Bool
-right j m = exact (getD namedParts j []) m
+right j m = exact (named (getD namedParts j [])) m
 
 pub tests : (j w : ℕ) → j < 32 → w < 2 ^ 64 → eqb (bitAnd w (getD masks j 0)) w ≡ onlyIn (getD namedParts j []) w
 unfolding right isSet
-tests j w h fit = masked (getD namedParts j []) (getD masks j 0) w (entry right 0 masks tt j h) fit
+tests j w h fit = masked (named (getD namedParts j [])) (getD masks j 0) w (entry right 0 masks tt j h) fit

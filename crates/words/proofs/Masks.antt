@@ -1,8 +1,7 @@
--- A mask whose set bits are those of some ranges tests by `w & mask == w` that a word uses no others.
+-- A mask tests by `w & mask == w` that a word sets none but the mask's bits.
 -- Assumes nothing.
 use mathlib.Core.Path.{_≡_, refl, sym, ap, ap₂, _∙_, subst}
 use mathlib.Core.Bool.{Bool, true, false, not, _||_}
-use mathlib.Core.List.{List}
 use Prim.Native.Nat.{ℕ, zero, suc, _+_, _*_, _/_, _%_, _^_, _≤_, _<_, min}
 use native.Mathlib.Nat.{mod-lt, div-one, div-div-eq-div-mul, div-lt-iff-lt-mul, pow-suc, mul-comm, div-add-mod'}
 use native.Mathlib.Omega.{arith}
@@ -12,7 +11,7 @@ use lib.Dec.{eqb}
 use borrow.Author.Tests.{eqb-true, eq-eqb}
 use Rattle.words.specs.Choice.{pick}
 use Rattle.words.specs.Parts.{isSet}
-use Rattle.words.specs.Ranges.{Range, named, all, onlyIn}
+use Rattle.words.specs.Ranges.{all, setOnly}
 use Rattle.words.proofs.Truth.{same-test, then-true, true-then}
 use Rattle.words.proofs.Table.{all-at, at-all}
 
@@ -50,32 +49,32 @@ of-under (suc n) w m h f =
     λ e. ap (λ (x : ℕ). x % 2) (sym (div-one m)) ∙ eqb-true (m / 1 % 2) 1 (f 0 (omega arith) (eq-eqb (w / 1 % 2) 1 (ap (λ (x : ℕ). x % 2) (div-one w) ∙ e))) in
     and-step w m ∙ ap₂ (λ (x y : ℕ). x * 2 + y) rest (least (w % 2) (m % 2) (mod-lt w two-pos) first) ∙ div-add-mod' w 2
 
--- the set bits of the mask m are those of the ranges
-abbrev pub exact : List Range → ℕ → Bool
-exact rs m = all 64 (λ i. pick (isSet i m) (named rs i) (not (named rs i)))
+-- the set bits of the mask m are those that pass the test
+abbrev pub exact : (ℕ → Bool) → ℕ → Bool
+exact p m = all 64 (λ i. pick (isSet i m) (p i) (not (p i)))
 
 agree : (a b : Bool) → pick a b (not b) ≡ true → a ≡ b
 agree true b e = sym e
 agree false true e = e
 agree false false e = refl
 
-module _ (rs : List Range) where
+module _ (p : ℕ → Bool) where
   abbrev lies : ℕ → ℕ → Bool
-  lies w i = not (isSet i w) || named rs i
+  lies w i = not (isSet i w) || p i
 
-  -- the plain reading: each set bit is named
-  pub reads : (w : ℕ) → onlyIn rs w ≡ true → (i : ℕ) → i < 64 → isSet i w ≡ true → named rs i ≡ true
-  unfolding onlyIn
-  reads w e i h s = then-true (all-at 64 (lies w) e i h) s
+  -- the plain reading: each set bit passes
+  pub reads : (n w : ℕ) → setOnly n p w ≡ true → (i : ℕ) → i < n → isSet i w ≡ true → p i ≡ true
+  unfolding setOnly
+  reads n w e i h s = then-true (all-at n (lies w) e i h) s
 
-  pub read-back : (w : ℕ) → ((i : ℕ) → i < 64 → isSet i w ≡ true → named rs i ≡ true) → onlyIn rs w ≡ true
-  unfolding onlyIn
-  read-back w f = at-all 64 (lies w) (λ i h. true-then (isSet i w) (f i h))
+  pub read-back : (n w : ℕ) → ((i : ℕ) → i < n → isSet i w ≡ true → p i ≡ true) → setOnly n p w ≡ true
+  unfolding setOnly
+  read-back n w f = at-all n (lies w) (λ i h. true-then (isSet i w) (f i h))
 
-  pub masked : (m w : ℕ) → exact rs m ≡ true → w < 2 ^ 64 → eqb (bitAnd w m) w ≡ onlyIn rs w
+  pub masked : (m w : ℕ) → exact p m ≡ true → w < 2 ^ 64 → eqb (bitAnd w m) w ≡ setOnly 64 p w
   masked m w e fit =
-      let has : (i : ℕ) → i < 64 → isSet i m ≡ named rs i =
-      λ i h. agree (isSet i m) (named rs i) (all-at 64 (λ k. pick (isSet k m) (named rs k) (not (named rs k))) e i h) in
-      same-test (eqb (bitAnd w m) w) (onlyIn rs w)
-      (λ t. read-back w (λ i h s. sym (has i h) ∙ under-of 64 w m (eqb-true (bitAnd w m) w t) i h s))
-      (λ o. eq-eqb (bitAnd w m) w (of-under 64 w m fit (λ i h s. has i h ∙ reads w o i h s)))
+      let has : (i : ℕ) → i < 64 → isSet i m ≡ p i =
+      λ i h. agree (isSet i m) (p i) (all-at 64 (λ k. pick (isSet k m) (p k) (not (p k))) e i h) in
+      same-test (eqb (bitAnd w m) w) (setOnly 64 p w)
+      (λ t. read-back 64 w (λ i h s. sym (has i h) ∙ under-of 64 w m (eqb-true (bitAnd w m) w t) i h s))
+      (λ o. eq-eqb (bitAnd w m) w (of-under 64 w m fit (λ i h s. has i h ∙ reads 64 w o i h s)))

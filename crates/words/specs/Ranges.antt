@@ -27,6 +27,10 @@ abbrev pub all : ℕ → (ℕ → Bool) → Bool
 all zero p = true
 all (suc n) p = p n && all n p
 
+-- each of the lowest n bits of w that is set passes the test
+unfoldable pub setOnly : ℕ → (ℕ → Bool) → ℕ → Bool
+setOnly n p w = all n (λ i. not (isSet i w) || p i)
+
 -- each bit of the word w that is set lies in one of the ranges
-unfoldable pub onlyIn : List Range → ℕ → Bool
-onlyIn rs w = all 64 (λ i. not (isSet i w) || named rs i)
+abbrev pub onlyIn : List Range → ℕ → Bool
+onlyIn rs w = setOnly 64 (named rs) w

@@ -7,7 +7,8 @@ use Rattle.image.proofs.is_bad.Tie as tie
 
 returns : tie.Need-returns
 unfolding isBad
-returns c = cc
+returns c =
+    rw (c .well-formed .ensures, c .before .row-at .ensures)
 
 pub is-bad-spec : {M : Type 1} → statement M
 is-bad-spec = tie.close (tie.spec (λ c κs. search needs) (λ c κs. search needs) returns)

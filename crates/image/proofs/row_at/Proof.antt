@@ -1,5 +1,6 @@
 -- `image::row_at` meets its contract.
 -- Assumes nothing.
+use mathlib.Core.Path.{refl}
 use Rattle.image.specs.Image.{rowAt}
 use borrow.Author.Needs.{needs}
 use Rattle.image.proofs.row_at.Statement.{statement}
@@ -7,7 +8,7 @@ use Rattle.image.proofs.row_at.Tie as tie
 
 returns : tie.Need-returns
 unfolding rowAt
-returns c = cc
+returns c = refl
 
 pub row-at-spec : {M : Type 1} → statement M
 row-at-spec =

@@ -7,7 +7,8 @@ use Rattle.control.proofs.stores.acknowledged.Tie as tie
 
 returns : tie.Need-returns
 unfolding acknowledged
-returns c = cc
+returns c =
+    rw (c .put .ensures, c .before .gerror-of .ensures .0)
 
 pub acknowledged-spec : {M : Type 1} → statement M
 acknowledged-spec = tie.close (tie.spec (λ c κs. search needs) (λ c κs. search needs) returns)

@@ -7,7 +7,8 @@ use Rattle.control.proofs.stores.consumed.Tie as tie
 
 returns : tie.Need-returns
 unfolding consumed
-returns c = cc
+returns c =
+    rw (c .put .ensures, c .before .next .ensures, c .before .before .rd-of .ensures, c .before .before .before .log2size-of .ensures .0)
 
 pub consumed-spec : {M : Type 1} → statement M
 consumed-spec =

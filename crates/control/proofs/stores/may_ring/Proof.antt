@@ -8,7 +8,8 @@ use Rattle.control.proofs.stores.may_ring.Tie as tie
 
 returns : tie.Need-returns
 unfolding mayRing distance
-returns c = cc
+returns c =
+    rw (c .distance2 .ensures, c .before .distance .ensures, c .before .before .wr-of .ensures, c .before .before .before .well-formed .ensures, c .before .before .before .before .rd-of .ensures, c .before .before .before .before .before .log2size-of .ensures .0)
 
 pub may-ring-spec : {M : Type 1} → statement M
 may-ring-spec =

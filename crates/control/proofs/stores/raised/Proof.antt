@@ -7,7 +7,8 @@ use Rattle.control.proofs.stores.raised.Tie as tie
 
 returns : tie.Need-returns
 unfolding raised
-returns c = cc
+returns c =
+    rw (c .put2 .ensures, c .before .gerror-of .ensures .0, c .before .before .put .ensures)
 
 pub raised-spec : {M : Type 1} → statement M
 raised-spec = tie.close (tie.spec (λ c κs. search needs) (λ c κs. search needs) (λ c. search needs) (λ c κs. search needs) returns)

@@ -7,7 +7,8 @@ use Rattle.control.proofs.stores.rung.Tie as tie
 
 returns : tie.Need-returns
 unfolding rung
-returns c = cc
+returns c =
+    rw (c .put .ensures)
 
 pub rung-spec : {M : Type 1} → statement M
 rung-spec = tie.close (tie.spec (λ c κs. search needs) returns)

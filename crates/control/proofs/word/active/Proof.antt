@@ -7,7 +7,8 @@ use Rattle.control.proofs.word.active.Tie as tie
 
 returns : tie.Need-returns
 unfolding active
-returns c = cc
+returns c =
+    rw (c .gerrorn-of .ensures, c .before .gerror-of .ensures .0)
 
 pub active-spec : {M : Type 1} → statement M
 active-spec = tie.close (tie.spec (λ c κs. search needs) (λ c κs. search needs) returns)

@@ -7,7 +7,8 @@ use Rattle.control.proofs.word.fields_of.Tie as tie
 
 returns : tie.Need-returns
 unfolding fieldsOf
-returns c = cc
+returns c =
+    rw (c .log2size-of .ensures .0, c .before .cmdqen-of .ensures, c .before .before .gerrorn-of .ensures, c .before .before .before .gerror-of .ensures .0, c .before .before .before .before .err-of .ensures, c .before .before .before .before .before .wr-of .ensures, c .before .before .before .before .before .before .rd-of .ensures)
 
 pub fields-of-spec : {M : Type 1} → statement M
 fields-of-spec =

@@ -7,7 +7,8 @@ use Rattle.control.proofs.word.slot_of.Tie as tie
 
 returns : tie.Need-returns
 unfolding slot
-returns c = cc
+returns c =
+    rw (c .slot .ensures, c .before .rd-of .ensures, c .before .before .log2size-of .ensures .0)
 
 pub slot-of-spec : {M : Type 1} → statement M
 slot-of-spec = tie.close (tie.spec (λ c κs. search needs) (λ c κs. search needs) (λ c κs. search needs) returns)

@@ -7,7 +7,8 @@ use Rattle.control.proofs.word.well_formed.Tie as tie
 
 returns : tie.Need-returns
 unfolding wellFormed
-returns c = cc
+returns c =
+    rw (c .err-of2 .ensures, c .before .active .ensures, c .before .before .err-of .ensures, c .before .before .before .well-formed .ensures, c .before .before .before .before .wr-of .ensures, c .before .before .before .before .before .rd-of .ensures, c .before .before .before .before .before .before .log2size-of2 .ensures .0, c .before .before .before .before .before .before .before .log2size-of .ensures .0, c .before .before .before .before .before .before .before .before .part .ensures)
 
 pub well-formed-spec : {M : Type 1} → statement M
 well-formed-spec =

@@ -7,7 +7,8 @@ use Rattle.rows.proofs.fields.overrides_of.Tie as tie
 
 returns : tie.Need-returns
 unfolding overridesOf
-returns c = cc
+returns c =
+    rw (c .part3 .ensures, c .before .part2 .ensures, c .before .before .new-mem-attr-of .ensures, c .before .before .before .part .ensures)
 
 pub overrides-of-spec : {M : Type 1} → statement M
 overrides-of-spec =

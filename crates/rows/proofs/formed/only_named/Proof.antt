@@ -7,7 +7,8 @@ use Rattle.rows.proofs.formed.only_named.Tie as tie
 
 returns : tie.Need-returns
 unfolding onlyNamed
-returns c = cc
+returns c =
+    rw (c .within4 .ensures, c .before .within3 .ensures, c .before .before .within2 .ensures, c .before .before .before .within .ensures, c .before .before .before .before .shape-of .ensures .0)
 
 pub only-named-spec : {M : Type 1} → statement M
 only-named-spec =

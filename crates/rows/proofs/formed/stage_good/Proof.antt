@@ -7,7 +7,8 @@ use Rattle.rows.proofs.formed.stage_good.Tie as tie
 
 returns : tie.Need-returns
 unfolding stageGood
-returns c = cc
+returns c =
+    rw (c .well-formed .ensures, c .before .attributes-of .ensures, c .before .before .placed2 .ensures, c .before .before .before .is-last .ensures, c .before .before .before .before .placed .ensures, c .before .before .before .before .before .span-of .ensures .0)
 
 pub stage-good-spec : {M : Type 1} → statement M
 stage-good-spec =

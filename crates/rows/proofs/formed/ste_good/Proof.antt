@@ -10,13 +10,20 @@ returns : tie.Need-returns
 unfolding steGood
 returns c =
     let s = c .before .before .before .before in
-    rw (sym (s .before .is-last .ensures) ∙ s .if1 .taken) (cc)
+    rw (
+      sym (s .before .is-last .ensures) ∙ s .if1 .taken,
+      c .mem-attr-formed .ensures,
+      c .before .new-mem-attr-of .ensures,
+      c .before .before .known-config .ensures,
+      c .before .before .before .config-of .ensures,
+    )
 
 returns-2 : tie.Need-returns-2
 unfolding steGood
 returns-2 c =
     let s = c .before .before .before in
-    rw (sym (s .before .is-last .ensures) ∙ s .if1 .left) (cc)
+    rw
+    (sym (s .before .is-last .ensures) ∙ s .if1 .left, c .power .ensures .0, c .before .stream-of .ensures, c .before .before .span-of .ensures .0)
 
 pub ste-good-spec : {M : Type 1} → statement M
 ste-good-spec =

@@ -7,7 +7,8 @@ use Rattle.rows.proofs.formed.well_formed.Tie as tie
 
 returns : tie.Need-returns
 unfolding wellFormed
-returns c = cc
+returns c =
+    rw (c .good2 .ensures, c .before .only-named .ensures, c .before .before .part .ensures)
 
 pub well-formed-spec : {M : Type 1} → statement M
 well-formed-spec = tie.close (tie.spec (λ c κs. search needs) (λ c κs. search needs) (λ c κs. search needs) returns)

@@ -1,0 +1,52 @@
+"""refusals.py DIR: each must-fail edit was refused because a fact fails.
+
+DIR holds a folder for each crate and in it one for each edit, with the prover's words in .log. An edit that no longer
+parses, names what is not there, or leaves a proof file that does not fit the code would be refused too, and shows nothing.
+"""
+import os
+import re
+import sys
+
+OTHER_REASONS = [
+    (r'has no `Need-', 'the proof file does not fit the edited code'),
+    (r'expected type `tie\.Need-', 'the proof file does not fit the edited code'),
+    (r'not in scope|unknown-name|cannot find', 'a name is missing'),
+    (r'[Pp]arse|syntax|is neither', 'the edited file does not parse'),
+    (r'was not admitted', 'the first error only follows from another'),
+]
+
+
+def reason(log):
+    """Why a log does not show a failed fact, or None where it does."""
+    first = next((line for line in log.split('\n') if 'error' in line), None)
+    if first is None:
+        return 'the log has no error'
+    for pattern, why in OTHER_REASONS:
+        if re.search(pattern, first):
+            return '%s: %s' % (why, first[:300])
+    return None
+
+
+def main(folder):
+    wrong = 0
+    count = 0
+    for crate in sorted(os.listdir(folder)):
+        for label in sorted(os.listdir(os.path.join(folder, crate))):
+            path = os.path.join(folder, crate, label, '.log')
+            if not os.path.isfile(path):
+                continue
+            count += 1
+            with open(path, encoding='utf-8', errors='replace') as opened:
+                why = reason(opened.read())
+            if why is not None:
+                print('%s/%s: %s' % (crate, label, why))
+                wrong += 1
+    if count == 0:
+        print('no must-fail edit was tried')
+        return 1
+    print('refusals: %d edits, %d refused for another reason' % (count, wrong))
+    return 1 if wrong else 0
+
+
+if __name__ == '__main__':
+    sys.exit(main(sys.argv[1]))
