@@ -1,7 +1,7 @@
 -- Document 01, A transaction, step 5.
 -- Assumes nothing.
 use Prim.Native.Nat.{ℕ}
-use mathlib.Core.Bool.{Bool, _||_}
+use mathlib.Core.Bool.{_||_}
 use lib.Dec.{eqb}
 use Rattle.words.specs.Choice.{pick}
 use Rattle.attributes.specs.declared.Attributes.{Attributes}

@@ -44,13 +44,14 @@ fn bit(w: u64, i: u64) -> u64
     words::part(w, i, i)
 }
 
+// ALLOCCFG runs from RA at its top to TR at its bottom, hints the other way.
 fn allocated(alloccfg: u64) -> u64
     ensures { λ r. ⌜ (r ≡ allocated alloccfg) × (r < 8) ⌝ }
 {
     bit(alloccfg, 2) + 2 * bit(alloccfg, 1) + 4 * bit(alloccfg, 0)
 }
 
-// The hints of a half are below 8, before and after, so that the two can be joined.
+// ALLOCCFG has the last word, so it is asked first. The bound on a half's hints lets the two be joined.
 fn half_hints(alloccfg: u64, was: bool, is: bool, h: u64) -> u64
     requires { ⌜ h < 8 ⌝ }
     ensures { λ r. ⌜ (r ≡ halfHints alloccfg was is h) × (r < 8) ⌝ }
@@ -82,6 +83,7 @@ fn override_hints(alloccfg: u64, old: u64, new: u64, h: u64) -> u64
     join_hints(i, o)
 }
 
+// What an STE row makes of the incoming attributes.
 pub fn overridden(o: Overrides, a: Attributes) -> Attributes
     ensures { λ r. ⌜ r ≡ overridden o a ⌝ }
 {
@@ -93,18 +95,21 @@ pub fn overridden(o: Overrides, a: Attributes) -> Attributes
     }
 }
 
+// INSTCFG and PRIVCFG have one code.
 fn forced(cfg: u64, incoming: bool) -> bool
     ensures { λ r. ⌜ r ≡ forced cfg incoming ⌝ }
 {
     !(cfg == 2) & ((cfg == 3) | incoming)
 }
 
+// Whether the access is an instruction fetch.
 pub fn instruction(instcfg: u64, write: bool, incoming: bool) -> bool
     ensures { λ r. ⌜ r ≡ instruction instcfg write incoming ⌝ }
 {
     !write & forced(instcfg, incoming)
 }
 
+// Whether the access is privileged.
 pub fn privileged(privcfg: u64, incoming: bool) -> bool
     ensures { λ r. ⌜ r ≡ privileged privcfg incoming ⌝ }
 {

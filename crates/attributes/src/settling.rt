@@ -38,6 +38,7 @@ fn settled_hints(m: u64, h: u64) -> u64
     )
 }
 
+// The attributes as they leave: the only place where hints of a half that is not cacheable go.
 pub fn settled(a: Attributes) -> Attributes
     ensures { λ r. ⌜ r ≡ settled a ⌝ }
 {

@@ -1,11 +1,12 @@
 -- Document 01, A transaction: combining, and the numbers of the consistent values.
 -- Assumes nothing.
-use Prim.Native.Nat.{ℕ, suc, _+_, _-_, _*_, _/_, _%_, min, max}
-use mathlib.Core.Bool.{Bool, _||_}
+use Prim.Native.Nat.{ℕ, _+_, _-_, _*_, _/_, _%_, min, max}
+use mathlib.Core.Bool.{_||_}
 use mathlib.Core.List.{List, [], _∷_}
 use lib.Dec.{eqb, ltb}
 use lib.ListN.{getD}
 use Rattle.words.specs.Choice.{pick}
+use Rattle.words.specs.Search.{placeOf}
 use Rattle.attributes.specs.declared.Attributes.{Attributes}
 use Rattle.attributes.specs.Formats.{isDevice, outer, inner, ncNc, nsh, osh, ish}
 
@@ -23,17 +24,9 @@ combineSh s t = shOfRank (max (rank s) (rank t))
 abbrev pub combineMemAttr : ℕ → ℕ → ℕ
 combineMemAttr m n = pick (isDevice m || isDevice n) (min m n) (4 * min (outer m) (outer n) + min (inner m) (inner n))
 
--- how many consistent values there are: four Device types, iNC-oNC, and each other Normal type at each shareability
-abbrev pub values : ℕ
-values = 29
-
+-- the 29 consistent values: four Device types, iNC-oNC, and these at each shareability
 abbrev pub normals : List ℕ
 normals = 6 ∷ 7 ∷ 9 ∷ 10 ∷ 11 ∷ 13 ∷ 14 ∷ 15 ∷ []
-
--- the place of the first x in a list
-abbrev pub placeOf : List ℕ → ℕ → ℕ
-placeOf [] x = 0
-placeOf (y ∷ ys) x = pick (eqb y x) 0 (suc (placeOf ys x))
 
 -- the number of a MemAttr and an SH
 unfoldable pub number : ℕ → ℕ → ℕ

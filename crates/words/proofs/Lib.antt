@@ -2,5 +2,6 @@ pub mod Truth
 pub mod Parts
 pub mod Table
 pub mod Masks
+pub mod TwoWords
 pub mod Bytes
 pub mod Search

@@ -1,12 +1,12 @@
 -- Tests as equations.
 -- Assumes nothing.
-use mathlib.Core.Path.{_≡_, refl, sym, subst}
+use mathlib.Core.Path.{_≡_, refl, sym}
 use mathlib.Core.Bool.{Bool, true, false, not, _&&_, _||_}
-use mathlib.Core.Logic.{_⊎_, inl, inr}
-use Prim.Native.Nat.{ℕ}
+use mathlib.Core.Logic.{_⊎_, inl, inr, ⊎-elim}
+use Prim.Native.Nat.{ℕ, _≤_, _<_}
 use native.Mathlib.Omega.{arith}
-use lib.Dec.{T, eqb, eqb-refl}
-use borrow.Author.Tests.{eqb-true, eq-eqb}
+use lib.Dec.{T, eqb, ltb}
+use borrow.Author.Tests.{eqb-true, eq-eqb, ltb-true, ltb-false}
 
 -- what a computed test says
 pub passed : {b : Bool} → T b → b ≡ true
@@ -19,6 +19,9 @@ clash p q = let z : _≡_ {A = ℕ} 0 1 = cc in absurd (omega arith)
 pub decided : (b : Bool) → (b ≡ true) ⊎ (b ≡ false)
 decided true = inl refl
 decided false = inr refl
+
+pub less-or-not : (a b : ℕ) → (a < b) ⊎ (b ≤ a)
+less-or-not a b = ⊎-elim (λ e. inl (ltb-true a b e)) (λ e. inr (ltb-false a b e)) (decided (ltb a b))
 
 -- both tests of a conjunction passed
 pub left : (a b : Bool) → (a && b) ≡ true → a ≡ true

@@ -2,6 +2,8 @@
 -- Assumes nothing.
 use Prim.Native.Nat.{ℕ, zero, suc, _+_}
 use mathlib.Core.Bool.{Bool}
+use mathlib.Core.List.{List, [], _∷_}
+use lib.Dec.{eqb}
 use Rattle.words.specs.declared.Found.{Found}
 use Rattle.words.specs.declared.Found.the-variants.{At, Nothing}
 use Rattle.words.specs.Choice.{pick}
@@ -15,3 +17,8 @@ lowest p (suc n) i = pick (p i) (At i) (lowest p n (suc i))
 unfoldable pub count : (ℕ → Bool) → ℕ → ℕ
 count p zero = 0
 count p (suc n) = pick (p n) 1 0 + count p n
+
+-- the place of the first x in a list, or the list's length
+abbrev pub placeOf : List ℕ → ℕ → ℕ
+placeOf [] x = 0
+placeOf (y ∷ ys) x = pick (eqb y x) 0 (suc (placeOf ys x))

@@ -1,0 +1,4 @@
+pub mod Tables
+pub mod Formed
+pub mod Numbers
+pub mod Laws
