@@ -12,15 +12,19 @@ OTHER_REASONS = [
     (r'expected type `tie\.Need-', 'the proof file does not fit the edited code'),
     (r'not in scope|unknown-name|cannot find', 'a name is missing'),
     (r'[Pp]arse|syntax|is neither', 'the edited file does not parse'),
-    (r'was not admitted', 'the first error only follows from another'),
 ]
+
+# A caller's error that only follows from a callee's, and a fact that the prover's own search leaves unproved.
+FOLLOWS = 'was not admitted'
+LEFT = 'it is not proved that'
 
 
 def reason(log):
     """Why a log does not show a failed fact, or None where it does."""
-    first = next((line for line in log.split('\n') if 'error' in line), None)
+    lines = log.split('\n')
+    first = next((line for line in lines if 'error' in line and FOLLOWS not in line), None)
     if first is None:
-        return 'the log has no error'
+        return None if any(LEFT in line for line in lines) else 'the log shows no fact that fails'
     for pattern, why in OTHER_REASONS:
         if re.search(pattern, first):
             return '%s: %s' % (why, first[:300])

@@ -37,6 +37,7 @@ def citations():
 def logs():
     expect('a failed fact', refusals.reason('note\np/Proof.antt:1:2: error: `returns`: expected type `a ≡ b`, but this has type `a ≡ c`\n') is None)
     expect('a failed sum', refusals.reason('p/Proof.antt:1:2: error: `add-i`: `omega`: the goal does not follow from what it read\n') is None)
+    expect('a fact that the search leaves', refusals.reason('p/Proof.antt:1:2: error: `f-spec`: `close` was not admitted\nnote: src/lib.rt:1:1: it is not proved that what the function ensures holds\n') is None)
     for log in [
         '',
         'p/Proof.antt:1:2: error: `x` has no `Need-add-i` that can be named from here\n',
@@ -44,7 +45,7 @@ def logs():
         'src/lib.rt:1:2: error[unknown-name]: cannot find value `x` in this scope\n',
         'specs/A.antt:1:2: error: `f`: `g` is not in scope\n',
         'specs/A.antt:1:2: error: Parse: unexpected\n',
-        'p/Proof.antt:1:2: error: `f-spec`: `close` was not admitted (it has holes), so this cannot be checked\nerror: later\n',
+        'p/Proof.antt:1:2: error: `f-spec`: `close` was not admitted (it has holes), so this cannot be checked\n',
     ]:
         expect('another reason: ' + log[:60], refusals.reason(log) is not None)
 

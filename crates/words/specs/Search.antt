@@ -21,4 +21,4 @@ count p (suc n) = pick (p n) 1 0 + count p n
 -- the place of the first x in a list, or the list's length
 abbrev pub placeOf : List ℕ → ℕ → ℕ
 placeOf [] x = 0
-placeOf (y ∷ ys) x = pick (eqb y x) 0 (suc (placeOf ys x))
+placeOf (y ∷ ys) x = pick (eqb x y) 0 (suc (placeOf ys x))

@@ -1,0 +1,4 @@
+pub mod Masks
+pub mod Legality
+pub mod ScopeLaws
+pub mod Containments

@@ -1,0 +1,14 @@
+-- `commands::scopes::cd_at` meets its contract.
+-- Assumes nothing.
+use Rattle.rows.specs.Rows.{partsOf}
+use Rattle.commands.specs.Scopes.{cdAt}
+use borrow.Author.Needs.{needs}
+use Rattle.commands.proofs.scopes.cd_at.Statement.{statement}
+use Rattle.commands.proofs.scopes.cd_at.Tie as tie
+
+returns : tie.Need-returns
+unfolding partsOf cdAt
+returns c = rw (c .before .before .before .before .parts-of .ensures)
+
+pub cd-at-spec : {M : Type 1} → statement M
+cd-at-spec = tie.close (tie.spec (λ c κs. search needs) returns)

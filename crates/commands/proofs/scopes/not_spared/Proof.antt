@@ -1,0 +1,13 @@
+-- `commands::scopes::not_spared` meets its contract.
+-- Assumes nothing.
+use Rattle.rows.specs.Rows.{partsOf}
+use borrow.Author.Needs.{needs}
+use Rattle.commands.proofs.scopes.not_spared.Statement.{statement}
+use Rattle.commands.proofs.scopes.not_spared.Tie as tie
+
+returns : tie.Need-returns
+unfolding partsOf
+returns c = rw (c .before .parts-of .ensures)
+
+pub not-spared-spec : {M : Type 1} → statement M
+not-spared-spec = tie.close (tie.spec (λ c κs. search needs) returns)

@@ -1,0 +1,136 @@
+// Document 01, Commands and their scopes: which commands are legal, and what they are.
+use crate::Command;
+use crate::Decoded;
+use crate::Features;
+use crate::formats::clean;
+use crate::formats::field;
+ghost use mathlib.Core.Path.{_≡_};
+ghost use Prim.Native.Nat.{_+_, _*_, _≤_, _<_};
+ghost use lib.ListN.{length};
+ghost use Rattle.words.specs.Parts.{joined};
+ghost use Rattle.words.specs.Search.{placeOf};
+ghost use Rattle.words.specs.Ranges.{get};
+ghost use Rattle.commands.specs.Formats.{codes, streamBits, vmidBits, asidBits, leafBits, pageBits};
+ghost use Rattle.commands.specs.Decoding.{featurePresent, parameterGood, isLegal, isSetIn, commandOf, decode, decodeAt};
+
+// The place of a code among the fourteen, or 14.
+fn place(code: u64) -> usize
+    ensures { λ r. ⌜ r ≡ placeOf codes code ⌝ }
+{
+    match code {
+        0x01 => 0,
+        0x02 => 1,
+        0x03 => 2,
+        0x04 => 3,
+        0x05 => 4,
+        0x06 => 5,
+        0x10 => 6,
+        0x11 => 7,
+        0x12 => 8,
+        0x13 => 9,
+        0x28 => 10,
+        0x2A => 11,
+        0x30 => 12,
+        0x46 => 13,
+        _ => 14,
+    }
+}
+
+fn feature_present(f: Features, code: u64) -> bool
+    ensures { λ r. ⌜ r ≡ featurePresent f code ⌝ }
+{
+    if (code == 0x05) | (code == 0x06) | ((0x10 <= code) & (code <= 0x13)) {
+        return f.s1p;
+    }
+    if (code == 0x28) | (code == 0x2A) {
+        return f.s2p;
+    }
+    true
+}
+
+fn parameter_good(code: u64, lo: u64, hi: u64) -> bool
+    ensures { λ r. ⌜ r ≡ parameterGood code (joined lo hi) ⌝ }
+{
+    !((code == 0x46) & (field(lo, hi, 13, 12) == 3))
+}
+
+fn is_legal(f: Features, lo: u64, hi: u64) -> bool
+    ensures { λ r. ⌜ r ≡ isLegal f (joined lo hi) ⌝ }
+{
+    let code = field(lo, hi, 7, 0);
+    let k = place(code);
+    if k < 14 {
+        return feature_present(f, code) & clean(f.s2p, k, lo, hi) & parameter_good(code, lo, hi);
+    }
+    false
+}
+
+fn stream(lo: u64, hi: u64) -> u64
+    ensures { λ r. ⌜ r ≡ get streamBits (joined lo hi) ⌝ }
+{
+    field(lo, hi, 63, 32)
+}
+
+fn vmid(lo: u64, hi: u64) -> u64
+    ensures { λ r. ⌜ r ≡ get vmidBits (joined lo hi) ⌝ }
+{
+    field(lo, hi, 47, 32)
+}
+
+fn asid(lo: u64, hi: u64) -> u64
+    ensures { λ r. ⌜ r ≡ get asidBits (joined lo hi) ⌝ }
+{
+    field(lo, hi, 63, 48)
+}
+
+fn leaf(lo: u64, hi: u64) -> bool
+    ensures { λ r. ⌜ r ≡ isSetIn leafBits (joined lo hi) ⌝ }
+{
+    field(lo, hi, 64, 64) == 1
+}
+
+fn page(lo: u64, hi: u64) -> u64
+    ensures { λ r. ⌜ r ≡ get pageBits (joined lo hi) ⌝ }
+{
+    field(lo, hi, 127, 76)
+}
+
+fn command_of(code: u64, lo: u64, hi: u64) -> Command
+    ensures { λ r. ⌜ r ≡ commandOf code (joined lo hi) ⌝ }
+{
+    match code {
+        0x01 => Command::PrefetchConfig,
+        0x02 => Command::PrefetchAddr,
+        0x03 => Command::CfgiSte(stream(lo, hi), leaf(lo, hi)),
+        0x04 => Command::CfgiSteRange(stream(lo, hi), field(lo, hi, 68, 64)),
+        0x05 => Command::CfgiCd(field(lo, hi, 31, 12), stream(lo, hi), leaf(lo, hi)),
+        0x06 => Command::CfgiCdAll(stream(lo, hi)),
+        0x10 => Command::TlbiNhAll(vmid(lo, hi)),
+        0x11 => Command::TlbiNhAsid(vmid(lo, hi), asid(lo, hi)),
+        0x12 => Command::TlbiNhVa(vmid(lo, hi), asid(lo, hi), leaf(lo, hi), page(lo, hi)),
+        0x13 => Command::TlbiNhVaa(vmid(lo, hi), leaf(lo, hi), page(lo, hi)),
+        0x28 => Command::TlbiS12Vmall(vmid(lo, hi)),
+        0x2A => Command::TlbiS2Ipa(vmid(lo, hi), leaf(lo, hi), field(lo, hi, 115, 76)),
+        0x30 => Command::TlbiNsnhAll,
+        _ => Command::Sync(field(lo, hi, 13, 12)),
+    }
+}
+
+pub fn decode(f: Features, lo: u64, hi: u64) -> Decoded
+    ensures { λ r. ⌜ r ≡ decode f lo hi ⌝ }
+{
+    if is_legal(f, lo, hi) {
+        Decoded::Legal(command_of(field(lo, hi, 7, 0), lo, hi))
+    } else {
+        Decoded::Illegal
+    }
+}
+
+// The command in a slot of the lent queue.
+pub fn decode_at(f: Features, queue: &[u8], slot: usize) -> Decoded
+    requires { ⌜ 16 * slot + 16 ≤ length (now queue) ⌝ }
+    ensures { λ r. ⌜ r ≡ decodeAt f (now (queue .entry)) slot ⌝ }
+{
+    let at = 16 * slot;
+    decode(f, words::word_at(queue, at), words::word_at(queue, at + 8))
+}

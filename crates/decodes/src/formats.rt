@@ -1,0 +1,185 @@
+// Document 01, Commands and their scopes: which codes are known, which bits of each are Reserved, which features it needs.
+use crate::show::code;
+use crate::show::number;
+use crate::show::say;
+use commands::Decoded;
+use commands::Features;
+ghost use Prim.Native.Nat.{_<_, _≤_};
+
+pub fn all() {
+    let yes = Features {
+        s1p: true,
+        s2p: true,
+        asid16: true,
+        vmid16: true,
+    };
+    say(b"legal codes:");
+    known_codes(yes);
+    say(b"\n");
+    sync();
+    code_by_code();
+}
+
+fn is_legal(f: Features, lo: u64, hi: u64) -> bool {
+    match commands::decode(f, lo, hi) {
+        Decoded::Legal(_) => true,
+        Decoded::Illegal => false,
+    }
+}
+
+fn verdict(f: Features, lo: u64) {
+    if is_legal(f, lo, 0) {
+        say(b" legal");
+    } else {
+        say(b" illegal");
+    }
+}
+
+fn known_code(f: Features, c: u64) {
+    if is_legal(f, c, 0) {
+        say(b" ");
+        code(c);
+    }
+}
+
+fn known_codes(f: Features) {
+    let mut c: u64 = 0;
+    while c < 256 {
+        known_code(f, c);
+        c += 1;
+    }
+}
+
+// The command that is only its code, with one more bit.
+fn with_bit(f: Features, c: u64, i: u64) -> bool
+    requires { ⌜ i < 128 ⌝ }
+{
+    if i < 64 {
+        is_legal(f, c | words::power(i), 0)
+    } else {
+        is_legal(f, c, words::power(i - 64))
+    }
+}
+
+// Whether bit i makes the command illegal. A range that begins here is opened, one that ended above is closed.
+fn reserved_bit(f: Features, c: u64, i: u64, within: bool) -> bool
+    requires { ⌜ i < 128 ⌝ }
+{
+    let bad = !with_bit(f, c, i);
+    if bad & !within {
+        say(b" ");
+        number(i);
+        say(b":");
+    }
+    if !bad & within {
+        number(i + 1);
+    }
+    bad
+}
+
+// The ranges of bits, from the top down to 8, any of which makes the command illegal.
+fn reserved_bits(f: Features, c: u64) -> bool {
+    let mut i: u64 = 128;
+    let mut within = false;
+    while 8 < i {
+        i -= 1;
+        within = reserved_bit(f, c, i, within);
+    }
+    within
+}
+
+fn reserved(f: Features, c: u64) {
+    if reserved_bits(f, c) {
+        number(8);
+    }
+    say(b"\n");
+}
+
+fn one_code(c: u64) {
+    let yes = Features {
+        s1p: true,
+        s2p: true,
+        asid16: true,
+        vmid16: true,
+    };
+    let no_s2p = Features {
+        s1p: true,
+        s2p: false,
+        asid16: true,
+        vmid16: true,
+    };
+    code(c);
+    say(b": without S1P");
+    verdict(
+        Features {
+            s1p: false,
+            s2p: true,
+            asid16: true,
+            vmid16: true,
+        },
+        c,
+    );
+    say(b", S2P");
+    verdict(no_s2p, c);
+    say(b", ASID16");
+    verdict(
+        Features {
+            s1p: true,
+            s2p: true,
+            asid16: false,
+            vmid16: true,
+        },
+        c,
+    );
+    say(b", VMID16");
+    verdict(
+        Features {
+            s1p: true,
+            s2p: true,
+            asid16: true,
+            vmid16: false,
+        },
+        c,
+    );
+    say(b"\n  Reserved:");
+    reserved(yes, c);
+    if is_legal(no_s2p, c, 0) {
+        say(b"  Reserved without S2P:");
+        reserved(no_s2p, c);
+    }
+}
+
+fn code_by_code() {
+    one_code(0x01);
+    one_code(0x02);
+    one_code(0x03);
+    one_code(0x04);
+    one_code(0x05);
+    one_code(0x06);
+    one_code(0x10);
+    one_code(0x11);
+    one_code(0x12);
+    one_code(0x13);
+    one_code(0x28);
+    one_code(0x2A);
+    one_code(0x30);
+    one_code(0x46);
+}
+
+fn sync() {
+    let none = Features {
+        s1p: false,
+        s2p: false,
+        asid16: false,
+        vmid16: false,
+    };
+    say(b"46 with CS 0:");
+    verdict(none, 0x46);
+    say(b", CS 1:");
+    verdict(none, 0x1046);
+    say(b", CS 2:");
+    verdict(none, 0x2046);
+    say(b", CS 3:");
+    verdict(none, 0x3046);
+    say(b"\n");
+}
