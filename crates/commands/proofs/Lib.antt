@@ -1,4 +1,2 @@
 pub mod Masks
 pub mod Legality
-pub mod ScopeLaws
-pub mod Containments

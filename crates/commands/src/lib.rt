@@ -1,12 +1,9 @@
-// Commands: which are legal, what they are, and which rows they are about.
+// Commands: which are legal, and what they are.
 mod decoding;
 mod formats;
-mod scopes;
 
 pub use decoding::decode;
 pub use decoding::decode_at;
-pub use scopes::idle;
-pub use scopes::in_scope;
 
 // What the unit is told to have.
 pub struct Features {

@@ -9,7 +9,7 @@ use Rattle.control.specs.Control as control
 use Rattle.control.specs.Stores as stores
 use Rattle.combining.specs.Combining as combining
 use Rattle.commands.specs.Decoding as decoding
-use Rattle.commands.specs.Scopes as scopes
+use Rattle.scopes.specs.Scopes as scopes
 use Rattle.promises.specs.Bench.{starred, agree}
 
 pub bench : agree starred ≡ true

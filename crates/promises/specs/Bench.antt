@@ -15,7 +15,7 @@ use Rattle.commands.specs.declared.Command.the-variants.{PrefetchConfig, Prefet
 use Rattle.commands.specs.declared.Decoded.{Decoded}
 use Rattle.commands.specs.declared.Decoded.the-variants.{Legal, Illegal}
 use Rattle.commands.specs.Decoding.{decode, isCounted}
-use Rattle.commands.specs.Scopes.{inScope}
+use Rattle.scopes.specs.Scopes.{inScope}
 
 abbrev truth : Bool → ℕ
 truth b = pick b 1 0

@@ -1,0 +1,123 @@
+-- Commands that remove at least what others do: by these a reader sees that the table was read right.
+-- Assumes nothing.
+use mathlib.Core.Path.{_≡_, refl, sym, ap, _∙_}
+use mathlib.Core.Bool.{Bool, true, false, not, _&&_, _||_}
+use mathlib.Core.Logic.{_⊎_, inl, inr, ⊎-elim}
+use Prim.Native.Nat.{ℕ, _+_, _/_, _^_, _≤_, _<_, max}
+use native.Mathlib.Nat.{div-eq-of-lt, lt-of-lt-of-le}
+use native.Mathlib.Omega.{arith}
+use lib.Dec.{eqb}
+use lib.Pow.{pow-mono}
+use borrow.Author.Tests.{eq-eqb, not-true, not-false}
+use Rattle.words.specs.Choice.{pick}
+use Rattle.words.specs.Parts.{part}
+use Rattle.words.proofs.Parts.{part-lt}
+use Rattle.words.proofs.Truth.{left, right, and-true, clash, decided}
+use Rattle.rows.specs.declared.Row.{Row}
+use Rattle.rows.specs.Rows as rows
+use Rattle.commands.specs.declared.Features.{Features}
+use Rattle.commands.specs.declared.Command.{Command}
+use Rattle.commands.specs.declared.Command.the-variants.{CfgiSte, CfgiSteRange, TlbiNhAll, TlbiNhAsid, TlbiNhVa, TlbiNhVaa, TlbiS12Vmall, TlbiS2Ipa, TlbiNsnhAll}
+use Rattle.scopes.specs.Scopes.{notSpared, meets, steBlock, blockOf, steOf, cdOf, stageOf, stageAt, hasAsid, isStage, addressOf, narrow, removes, idle, inScope}
+use Rattle.scopes.proofs.Laws.{Scoped, scoped, is-scoped}
+
+or-left : (a b : Bool) → a ≡ true → (a || b) ≡ true
+or-left a b e = rw e
+
+or-right : (a b : Bool) → b ≡ true → (a || b) ≡ true
+or-right true b e = refl
+or-right false b e = e
+
+either : (a b : Bool) → (a || b) ≡ true → (a ≡ true) ⊎ (b ≡ true)
+either true b e = inl refl
+either false b e = inr e
+
+-- b removes whatever a removes
+abbrev pub Within : Features → Command → Command → Type 0
+Within f a b = (row : Row) → inScope f a row ≡ true → inScope f b row ≡ true
+
+-- it does if it is busy where a is, and its row of the table says so
+within : (f : Features) (a b : Command) → (idle f a ≡ false → idle f b ≡ false) → ((row : Row) → removes a row ≡ true → removes b row ≡ true) → Within f a b
+within f a b busy more row e =
+    let s = scoped f a row e in
+    is-scoped f b row (record { used = s .used; busy = busy (s .busy); removed = more row (s .removed) })
+
+-- a conjunct of what is narrow is narrow
+one-narrow : (a b : Bool) → not (a && b) ≡ false → not a ≡ false
+one-narrow a b e = ap not (left a b (not-false (a && b) e))
+
+at-of : (row : Row) (k v p : ℕ) → stageAt row k v p ≡ true → stageOf row k v ≡ true
+unfolding stageAt
+at-of row k v p e = left (stageOf row k v) (rows.covers row (addressOf p)) e
+
+of-kind : (row : Row) (k v : ℕ) → stageOf row k v ≡ true → eqb (rows.kind row) k ≡ true
+unfolding stageOf
+of-kind row k v e = left (eqb (rows.kind row) k) (eqb (rows.vmid row) v) e
+
+-- 30 contains 28
+pub all-contains-vmall : (f : Features) (v : ℕ) → Within f (TlbiS12Vmall v) TlbiNsnhAll
+unfolding idle removes
+all-contains-vmall f v =
+    within f (TlbiS12Vmall v) TlbiNsnhAll (λ b. refl)
+    (λ row e. ⊎-elim
+    (λ p. or-left (eqb (rows.kind row) 2) (eqb (rows.kind row) 3) (of-kind row 2 v p))
+    (λ q. or-right (eqb (rows.kind row) 2) (eqb (rows.kind row) 3) (of-kind row 3 v q))
+    (either (stageOf row 2 v) (stageOf row 3 v) e))
+
+-- 28 contains 10
+pub vmall-contains-nh-all : (f : Features) (v : ℕ) → Within f (TlbiNhAll v) (TlbiS12Vmall v)
+unfolding idle removes
+vmall-contains-nh-all f v = within f (TlbiNhAll v) (TlbiS12Vmall v) (λ b. b) (λ row e. or-left (stageOf row 2 v) (stageOf row 3 v) e)
+
+-- 28 contains 2A
+pub vmall-contains-ipa : (f : Features) (v p : ℕ) (leaf : Bool) → Within f (TlbiS2Ipa v leaf p) (TlbiS12Vmall v)
+unfolding idle removes
+vmall-contains-ipa f v p leaf =
+    within f (TlbiS2Ipa v leaf p) (TlbiS12Vmall v) (λ b. b)
+    (λ row e. or-right (stageOf row 2 v) (stageOf row 3 v) (at-of row 3 v p (left (stageAt row 3 v p) (notSpared row leaf) e)))
+
+-- 10 contains 11
+pub nh-all-contains-asid : (f : Features) (v a : ℕ) → Within f (TlbiNhAsid v a) (TlbiNhAll v)
+unfolding idle removes
+nh-all-contains-asid f v a =
+    within f (TlbiNhAsid v a) (TlbiNhAll v) (one-narrow (narrow (f .vmid16) v) (narrow (f .asid16) a))
+    (λ row e. left (stageOf row 2 v) (hasAsid row a) (left (stageOf row 2 v && hasAsid row a) (not (rows.isGlobal row)) e))
+
+-- 10 contains 13
+pub nh-all-contains-vaa : (f : Features) (v p : ℕ) (leaf : Bool) → Within f (TlbiNhVaa v leaf p) (TlbiNhAll v)
+unfolding idle removes
+nh-all-contains-vaa f v p leaf =
+    within f (TlbiNhVaa v leaf p) (TlbiNhAll v) (λ b. b) (λ row e. at-of row 2 v p (left (stageAt row 2 v p) (notSpared row leaf) e))
+
+-- 13 contains 12, where its Leaf is 0 or the same
+spared-less : (row : Row) (leaf leaf′ : Bool) → (leaf′ ≡ false) ⊎ (leaf′ ≡ leaf) → notSpared row leaf ≡ true → notSpared row leaf′ ≡ true
+spared-less row leaf leaf′ h e =
+    ⊎-elim (λ z. rw z (or-right (rows.isLast row) true refl)) (λ s. rw s e) h
+
+pub vaa-contains-va : (f : Features) (v a p : ℕ) (leaf leaf′ : Bool) → (leaf′ ≡ false) ⊎ (leaf′ ≡ leaf) → Within f (TlbiNhVa v a leaf p) (TlbiNhVaa v leaf′ p)
+unfolding idle removes
+vaa-contains-va f v a p leaf leaf′ h =
+    within f (TlbiNhVa v a leaf p) (TlbiNhVaa v leaf′ p) (one-narrow (narrow (f .vmid16) v) (narrow (f .asid16) a))
+    (λ row e. let any = hasAsid row a || rows.isGlobal row in
+    let first = left (stageAt row 2 v p && any) (notSpared row leaf) e in
+    and-true (left (stageAt row 2 v p) any first) (spared-less row leaf leaf′ h (right (stageAt row 2 v p && any) (notSpared row leaf) e)))
+
+-- 04 with Range 31 contains every 03
+none-above : (x k : ℕ) → x < 2 ^ 32 → 32 ≤ k → x / 2 ^ k ≡ 0
+none-above x k h l = div-eq-of-lt (lt-of-lt-of-le h (pow-mono l))
+
+all-meet : (n a b : ℕ) → a < 2 ^ 32 → b < 2 ^ 32 → meets n a 32 b ≡ true
+all-meet n a b h k =
+    eq-eqb (a / 2 ^ max n 32) (b / 2 ^ max n 32) (none-above a (max n 32) h (omega arith) ∙ sym (none-above b (max n 32) k (omega arith)))
+
+pub range-contains-ste : (f : Features) (s t : ℕ) (leaf : Bool) → t < 2 ^ 32 → Within f (CfgiSte s leaf) (CfgiSteRange t 31)
+unfolding idle removes steOf cdOf part
+range-contains-ste f s t leaf h =
+    within f (CfgiSte s leaf) (CfgiSteRange t 31) (λ b. refl)
+    (λ row e. ⊎-elim
+    (λ p. or-left (steOf row 32 t) (cdOf row 32 t)
+    (and-true (left (eqb (rows.kind row) 0) (meets (steBlock row) (rows.stream row) 0 s) (left (steOf row 0 s) (notSpared row leaf) p))
+    (all-meet (steBlock row) (rows.stream row) t (part-lt 31 0 (row .w1)) h)))
+    (λ q. or-right (steOf row 32 t) (cdOf row 32 t)
+    (and-true (left (eqb (rows.kind row) 1) (meets 0 (rows.stream row) 0 s) q) (all-meet 0 (rows.stream row) t (part-lt 31 0 (row .w1)) h)))
+    (either (steOf row 0 s && notSpared row leaf) (cdOf row 0 s) e))

@@ -1,0 +1,13 @@
+-- `scopes::not_spared` meets its contract.
+-- Assumes nothing.
+use Rattle.rows.specs.Rows.{partsOf}
+use borrow.Author.Needs.{needs}
+use Rattle.scopes.proofs.not_spared.Statement.{statement}
+use Rattle.scopes.proofs.not_spared.Tie as tie
+
+returns : tie.Need-returns
+unfolding partsOf
+returns c = rw (c .before .parts-of .ensures)
+
+pub not-spared-spec : {M : Type 1} → statement M
+not-spared-spec = tie.close (tie.spec (λ c κs. search needs) returns)

@@ -1,0 +1,177 @@
+// Document 01, Commands and their scopes: which rows a legal command removes.
+use commands::Command;
+use commands::Features;
+use rows::Row;
+ghost use mathlib.Core.Path.{_≡_};
+ghost use Prim.Native.Nat.{_/_, _^_, _<_};
+ghost use lib.Dec.{eqb};
+ghost use Rattle.rows.specs.Rows.{isGlobal};
+ghost use Rattle.scopes.specs.Scopes.{notSpared, meets, blockOf, steOf, cdOf, cdAt, stageOf, addressOf, stageAt, hasAsid, isStage, narrow, removes, idle, inScope};
+
+fn not_spared(row: Row, leaf: bool) -> bool
+    ensures { λ r. ⌜ r ≡ notSpared row leaf ⌝ }
+{
+    rows::parts_of(row).last | !leaf
+}
+
+fn same_above(k: u64, a: u64, b: u64) -> bool
+    requires { ⌜ k < 64 ⌝ }
+    ensures { λ r. ⌜ r ≡ eqb (a / 2 ^ k) (b / 2 ^ k) ⌝ }
+{
+    a / words::power(k) == b / words::power(k)
+}
+
+fn meets(n: u64, a: u64, m: u64, b: u64) -> bool
+    requires { ⌜ (n < 64) × (m < 64) ⌝ }
+    ensures { λ r. ⌜ r ≡ meets n a m b ⌝ }
+{
+    if n < m {
+        return same_above(m, a, b);
+    }
+    same_above(n, a, b)
+}
+
+fn ste_of(row: Row, n: u64, stream: u64) -> bool
+    requires { ⌜ n < 64 ⌝ }
+    ensures { λ r. ⌜ r ≡ steOf row n stream ⌝ }
+{
+    let p = rows::parts_of(row);
+    if p.last {
+        return (p.kind == 0) & meets(0, p.stream, n, stream);
+    }
+    (p.kind == 0) & meets(p.span, p.stream, n, stream)
+}
+
+fn cd_of(row: Row, n: u64, stream: u64) -> bool
+    requires { ⌜ n < 64 ⌝ }
+    ensures { λ r. ⌜ r ≡ cdOf row n stream ⌝ }
+{
+    let p = rows::parts_of(row);
+    (p.kind == 1) & meets(0, p.stream, n, stream)
+}
+
+fn cd_at(row: Row, stream: u64, substream: u64) -> bool
+    ensures { λ r. ⌜ r ≡ cdAt row stream substream ⌝ }
+{
+    let p = rows::parts_of(row);
+    (p.kind == 1) & (p.stream == stream) & (!p.last | (p.substream == substream))
+}
+
+fn stage_of(row: Row, kind: u64, vmid: u64) -> bool
+    ensures { λ r. ⌜ r ≡ stageOf row kind vmid ⌝ }
+{
+    let p = rows::parts_of(row);
+    (p.kind == kind) & (p.vmid == vmid)
+}
+
+fn address_of(page: u64) -> u64
+    ensures { λ r. ⌜ r ≡ addressOf page ⌝ }
+{
+    words::part(page, 51, 0) * 4096
+}
+
+fn stage_at(row: Row, kind: u64, vmid: u64, page: u64) -> bool
+    ensures { λ r. ⌜ r ≡ stageAt row kind vmid page ⌝ }
+{
+    stage_of(row, kind, vmid) & rows::covers(row, address_of(page))
+}
+
+fn has_asid(row: Row, asid: u64) -> bool
+    ensures { λ r. ⌜ r ≡ hasAsid row asid ⌝ }
+{
+    rows::parts_of(row).asid == asid
+}
+
+fn is_global(row: Row) -> bool
+    ensures { λ r. ⌜ r ≡ isGlobal row ⌝ }
+{
+    rows::parts_of(row).global
+}
+
+// How many bits of a stream a Range leaves open: one more than its number, which has five bits.
+fn block_of(range: u64) -> u64
+    ensures { λ r. ⌜ (r ≡ blockOf range) × (r < 64) ⌝ }
+{
+    words::part(range, 4, 0) + 1
+}
+
+// Whether a row is one of those that the table names for a command.
+fn removes(c: Command, row: Row) -> bool
+    ensures { λ r. ⌜ r ≡ removes c row ⌝ }
+{
+    match c {
+        Command::PrefetchConfig => false,
+        Command::PrefetchAddr => false,
+        Command::CfgiSte(stream, leaf) => {
+            (ste_of(row, 0, stream) & not_spared(row, leaf)) | cd_of(row, 0, stream)
+        }
+        Command::CfgiSteRange(stream, range) => {
+            let n = block_of(range);
+            ste_of(row, n, stream) | cd_of(row, n, stream)
+        }
+        Command::CfgiCd(substream, stream, leaf) => cd_at(row, stream, substream)
+            & not_spared(row, leaf),
+        Command::CfgiCdAll(stream) => cd_of(row, 0, stream),
+        Command::TlbiNhAll(vmid) => stage_of(row, 2, vmid),
+        Command::TlbiNhAsid(vmid, asid) => stage_of(row, 2, vmid)
+            & has_asid(row, asid)
+            & !is_global(row),
+        Command::TlbiNhVa(vmid, asid, leaf, page) => {
+            stage_at(row, 2, vmid, page)
+                & (has_asid(row, asid) | is_global(row))
+                & not_spared(row, leaf)
+        }
+        Command::TlbiNhVaa(vmid, leaf, page) => stage_at(row, 2, vmid, page)
+            & not_spared(row, leaf),
+        Command::TlbiS12Vmall(vmid) => stage_of(row, 2, vmid) | stage_of(row, 3, vmid),
+        Command::TlbiS2Ipa(vmid, leaf, page) => stage_at(row, 3, vmid, page)
+            & not_spared(row, leaf),
+        Command::TlbiNsnhAll => is_stage(row),
+        Command::Sync(_) => false,
+    }
+}
+
+fn is_stage(row: Row) -> bool
+    ensures { λ r. ⌜ r ≡ isStage row ⌝ }
+{
+    let p = rows::parts_of(row);
+    (p.kind == 2) | (p.kind == 3)
+}
+
+fn narrow(wide: bool, id: u64) -> bool
+    ensures { λ r. ⌜ r ≡ narrow wide id ⌝ }
+{
+    wide | (words::part(id, 15, 8) == 0)
+}
+
+// Whether a command removes no row whatever, by its code or since an identifier is too wide.
+pub fn idle(f: Features, c: Command) -> bool
+    ensures { λ r. ⌜ r ≡ idle f c ⌝ }
+{
+    match c {
+        Command::PrefetchConfig => true,
+        Command::PrefetchAddr => true,
+        Command::CfgiSte(_, _) => false,
+        Command::CfgiSteRange(_, _) => false,
+        Command::CfgiCd(_, _, _) => false,
+        Command::CfgiCdAll(_) => false,
+        Command::TlbiNhAll(vmid) => !narrow(f.vmid16, vmid),
+        Command::TlbiNhAsid(vmid, asid) => !(narrow(f.vmid16, vmid) & narrow(f.asid16, asid)),
+        Command::TlbiNhVa(vmid, asid, _, _) => !(narrow(f.vmid16, vmid) & narrow(f.asid16, asid)),
+        Command::TlbiNhVaa(vmid, _, _) => !narrow(f.vmid16, vmid),
+        Command::TlbiS12Vmall(vmid) => !narrow(f.vmid16, vmid),
+        Command::TlbiS2Ipa(vmid, _, _) => !narrow(f.vmid16, vmid),
+        Command::TlbiNsnhAll => false,
+        Command::Sync(_) => true,
+    }
+}
+
+// Whether a row is in a command's scope.
+pub fn in_scope(f: Features, c: Command, row: Row) -> bool
+    ensures { λ r. ⌜ r ≡ inScope f c row ⌝ }
+{
+    if row.w0 == 0 {
+        return false;
+    }
+    !idle(f, c) & removes(c, row)
+}
