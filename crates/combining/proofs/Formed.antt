@@ -1,14 +1,14 @@
 -- Tests over all that is well formed, carried to what is at hand.
 -- Assumes nothing.
-use mathlib.Core.Path.{_≡_, refl}
+use mathlib.Core.Path.{_≡_}
 use mathlib.Core.Bool.{Bool, true, false, not, _&&_, _||_}
-use mathlib.Core.Logic.{_⊎_, inl, inr, ⊎-elim}
+use mathlib.Core.Logic.{⊎-elim}
 use Prim.Native.Nat.{ℕ, _<_}
 use native.Mathlib.Omega.{arith}
 use lib.Dec.{T, eqb, ltb}
 use borrow.Author.Tests.{ltb-true, eqb-true}
 use Rattle.words.specs.Ranges.{all}
-use Rattle.words.proofs.Truth.{passed, left, then-true}
+use Rattle.words.proofs.Truth.{passed, left, either, then-true}
 use Rattle.words.proofs.Table.{all-at}
 use Rattle.attributes.specs.Formats.{memAttrFormed, shFormed}
 
@@ -40,10 +40,6 @@ mem-attr-lt m f =
     let no4 = not (eqb m 4) in
     let no8 = not (eqb m 8) in
     ltb-true m 16 (left below no4 (left (below && no4) no8 (left (below && no4 && no8) (not (eqb m 12)) f)))
-
-either : (a b : Bool) → (a || b) ≡ true → (a ≡ true) ⊎ (b ≡ true)
-either true b e = inl refl
-either false b e = inr e
 
 pub sh-lt : (s : ℕ) → shFormed s ≡ true → s < 4
 unfolding shFormed

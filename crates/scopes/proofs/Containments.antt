@@ -2,7 +2,7 @@
 -- Assumes nothing.
 use mathlib.Core.Path.{_≡_, refl, sym, ap, _∙_}
 use mathlib.Core.Bool.{Bool, true, false, not, _&&_, _||_}
-use mathlib.Core.Logic.{_⊎_, inl, inr, ⊎-elim}
+use mathlib.Core.Logic.{_⊎_, ⊎-elim}
 use Prim.Native.Nat.{ℕ, _+_, _/_, _^_, _≤_, _<_, max}
 use native.Mathlib.Nat.{div-eq-of-lt, lt-of-lt-of-le}
 use native.Mathlib.Omega.{arith}
@@ -12,7 +12,7 @@ use borrow.Author.Tests.{eq-eqb, not-true, not-false}
 use Rattle.words.specs.Choice.{pick}
 use Rattle.words.specs.Parts.{part}
 use Rattle.words.proofs.Parts.{part-lt}
-use Rattle.words.proofs.Truth.{left, right, and-true, clash, decided}
+use Rattle.words.proofs.Truth.{left, right, and-true, either, or-left, or-right}
 use Rattle.rows.specs.declared.Row.{Row}
 use Rattle.rows.specs.Rows as rows
 use Rattle.commands.specs.declared.Features.{Features}
@@ -20,17 +20,6 @@ use Rattle.commands.specs.declared.Command.{Command}
 use Rattle.commands.specs.declared.Command.the-variants.{CfgiSte, CfgiSteRange, TlbiNhAll, TlbiNhAsid, TlbiNhVa, TlbiNhVaa, TlbiS12Vmall, TlbiS2Ipa, TlbiNsnhAll}
 use Rattle.scopes.specs.Scopes.{notSpared, meets, steBlock, blockOf, steOf, cdOf, stageOf, stageAt, hasAsid, isStage, addressOf, narrow, removes, idle, inScope}
 use Rattle.scopes.proofs.Laws.{Scoped, scoped, is-scoped}
-
-or-left : (a b : Bool) → a ≡ true → (a || b) ≡ true
-or-left a b e = rw e
-
-or-right : (a b : Bool) → b ≡ true → (a || b) ≡ true
-or-right true b e = refl
-or-right false b e = e
-
-either : (a b : Bool) → (a || b) ≡ true → (a ≡ true) ⊎ (b ≡ true)
-either true b e = inl refl
-either false b e = inr e
 
 -- b removes whatever a removes
 abbrev pub Within : Features → Command → Command → Type 0

@@ -35,6 +35,18 @@ right false b e = clash e refl
 pub and-true : {a b : Bool} → a ≡ true → b ≡ true → (a && b) ≡ true
 and-true p q = simp (p, q)
 
+-- one test of a disjunction passed
+pub either : (a b : Bool) → (a || b) ≡ true → (a ≡ true) ⊎ (b ≡ true)
+either true b e = inl refl
+either false b e = inr e
+
+pub or-left : (a b : Bool) → a ≡ true → (a || b) ≡ true
+or-left a b e = rw e
+
+pub or-right : (a b : Bool) → b ≡ true → (a || b) ≡ true
+or-right true b e = refl
+or-right false b e = e
+
 -- if the first passes, so does the second
 pub then-true : {a b : Bool} → (not a || b) ≡ true → a ≡ true → b ≡ true
 then-true {a = true} e p = e
