@@ -4,7 +4,7 @@ use mathlib.Core.Path.{_≡_, refl, sym, ap, _∙_}
 use mathlib.Core.Bool.{Bool, true, false}
 use mathlib.Core.Logic.{⊎-elim}
 use Prim.Native.Nat.{ℕ, zero, suc, _+_, _-_, _≤_, _<_}
-use native.Mathlib.Nat.{eq-or-lt-of-le}
+use native.Mathlib.Nat.{eq-or-lt-of-le, le-of-suc-le-suc}
 use native.Mathlib.Numerals.{add-one}
 use native.Mathlib.Omega.{arith}
 use Rattle.words.specs.Choice.{pick}
@@ -120,3 +120,21 @@ pub count-le : (p : ℕ → Bool) (n : ℕ) → count p n ≤ n
 unfolding count
 count-le p zero = omega arith
 count-le p (suc n) = at-most (p n) (count p n) n (count-le p n)
+
+-- two tests that agree below n count the same
+pub count-same : (p q : ℕ → Bool) (n : ℕ) → ((j : ℕ) → j < n → p j ≡ q j) → count p n ≡ count q n
+unfolding count
+count-same p q zero f = refl
+count-same p q (suc n) f = rw (f n (omega arith), count-same p q n (λ j h. f j (omega arith)))
+
+-- and where they differ at one place, by one
+pub count-less : (p q : ℕ → Bool) (n i : ℕ) → i < n → p i ≡ true → q i ≡ false → ((j : ℕ) → j < n → (j ≡ i → ⊥) → q j ≡ p j)
+    → count p n ≡ suc (count q n)
+unfolding count
+count-less p q zero i h a b f = absurd (omega arith)
+count-less p q (suc n) i h a b f =
+    ⊎-elim
+    (λ s. rw (← s, a, b) (let e : count q i ≡ count p i = count-same q p i (λ j l. f j (omega arith) (omega arith)) in omega arith))
+    (λ l. let e : count p n ≡ suc (count q n) = count-less p q n i l a b (λ j k d. f j (omega arith) d) in
+    rw (f n (omega arith) (omega arith), e) (omega arith))
+    (eq-or-lt-of-le (le-of-suc-le-suc h))

@@ -3,3 +3,4 @@ pub mod Parts
 pub mod Ranges
 pub mod Bytes
 pub mod Search
+pub mod Stores
