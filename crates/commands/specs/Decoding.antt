@@ -90,3 +90,8 @@ isCounted (TlbiS12Vmall vmid) = false
 isCounted (TlbiS2Ipa vmid leaf page) = false
 isCounted TlbiNsnhAll = false
 isCounted (Sync cs) = eqb cs 1
+
+-- how many of those a decoded command is
+abbrev pub syncsOf : Decoded → ℕ
+syncsOf (Legal command) = pick (isCounted command) 1 0
+syncsOf Illegal = 0

@@ -11,7 +11,7 @@ ghost use Rattle.words.specs.Parts.{joined};
 ghost use Rattle.words.specs.Search.{placeOf};
 ghost use Rattle.words.specs.Ranges.{get};
 ghost use Rattle.commands.specs.Formats.{codes, streamBits, vmidBits, asidBits, leafBits, pageBits};
-ghost use Rattle.commands.specs.Decoding.{featurePresent, parameterGood, isLegal, isSetIn, commandOf, decode, decodeAt};
+ghost use Rattle.commands.specs.Decoding.{featurePresent, parameterGood, isLegal, isSetIn, commandOf, decode, decodeAt, isCounted, syncsOf};
 
 // The place of a code among the fourteen, or 14.
 fn place(code: u64) -> usize
@@ -133,4 +133,23 @@ pub fn decode_at(f: Features, queue: &[u8], slot: usize) -> Decoded
 {
     let at = 16 * slot;
     decode(f, words::word_at(queue, at), words::word_at(queue, at + 8))
+}
+
+fn counted(c: Command) -> bool
+    ensures { λ r. ⌜ r ≡ isCounted c ⌝ }
+{
+    match c {
+        Command::Sync(cs) => cs == 1,
+        _ => false,
+    }
+}
+
+// How many CMD_SYNCs with CS 1 a decoded command is: one or none.
+pub fn syncs_of(d: Decoded) -> u64
+    ensures { λ r. ⌜ (r ≡ syncsOf d) × (r ≤ 1) ⌝ }
+{
+    match d {
+        Decoded::Legal(c) => { if counted(c) { 1 } else { 0 } }
+        Decoded::Illegal => 0,
+    }
 }

@@ -4,6 +4,7 @@ mod formats;
 
 pub use decoding::decode;
 pub use decoding::decode_at;
+pub use decoding::syncs_of;
 
 // What the unit is told to have.
 pub struct Features {

@@ -2,14 +2,14 @@
 -- Assumes nothing.
 use mathlib.Core.Path.{_≡_}
 use mathlib.Core.Bool.{Bool, true, not, _&&_, _||_}
-use Prim.Native.Nat.{ℕ, _≤_}
+use Prim.Native.Nat.{ℕ, _^_, _≤_, _<_}
 use lib.Dec.{eqb, leb}
 use borrow.Author.Tests.{eqb-true, eq-eqb, leb-true, le-leb}
 use Rattle.words.specs.Ranges.{get}
 use Rattle.words.proofs.Truth.{left, right, and-true, then-true, true-then}
 use Rattle.indexes.specs.Indexes as indexes
 use Rattle.indexes.proofs.Laws as indexed
-use Rattle.control.specs.Control.{zeroBits, rd, wr, err, log2size, maxLog2, active, wellFormed}
+use Rattle.control.specs.Control.{zeroBits, rd, wr, err, log2size, maxLog2, active, wellFormed, slot}
 
 pub record Formed (w : ℕ) : Type 0 where
   pub zeroes : get zeroBits w ≡ 0
@@ -50,3 +50,8 @@ module _ (w : ℕ) where
       (indexed.is-formed (log2size w) (rd w) (wr w) (f .waiting)))
       (le-leb (err w) 1 (f .known)))
       (true-then (active w) (λ on. eq-eqb (err w) 1 (f .told on)))
+
+-- the slot is one of the queue's
+pub slot-lt : (w : ℕ) → slot w < 2 ^ log2size w
+unfolding slot
+slot-lt w = indexed.slot-lt (log2size w) (rd w)

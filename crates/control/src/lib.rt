@@ -11,6 +11,7 @@ pub use stores::rung;
 pub use stores::switched;
 pub use word::active;
 pub use word::fields_of;
+pub use word::log2size_of;
 pub use word::slot_of;
 pub use word::standing_of;
 pub use word::well_formed;

@@ -75,7 +75,7 @@ module _ (m : List ℕ) (n : ℕ) (a : Accepts m n) where
       record {
         size = same-length 0 v;
         control-formed = rw (getD-set-same m 0 v 0 (omega (arith, a .size .words))) e;
-        rows-formed = λ i h. rw (row-kept m 0 v i (λ r. omega (arith, r .from))) (a .rows-formed i h)
+        rows-formed = λ i h. rw (row-kept m 0 v i (λ r. omega (arith, r .from))) (a .rows-formed i h);
       }
 
   -- a store into row i keeps the image accepted if it keeps that row well formed
@@ -84,7 +84,7 @@ module _ (m : List ℕ) (n : ℕ) (a : Accepts m n) where
       record {
         size = same-length p v;
         control-formed = rw (control-kept m p v (omega (arith, r .from))) (a .control-formed);
-        rows-formed = λ j h. each j h (ℕ-discrete j i)
+        rows-formed = λ j h. each j h (ℕ-discrete j i);
       }
     where
       each : (j : ℕ) → j < n → Dec (j ≡ i) → rows.wellFormed (rowAt (set m p v) j) ≡ true

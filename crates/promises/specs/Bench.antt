@@ -7,6 +7,8 @@ use lib.Dec.{eqb}
 use Rattle.words.specs.Choice.{pick}
 use Rattle.control.specs.Control as control
 use Rattle.control.specs.Stores as stores
+use Rattle.control.specs.declared.Standing.{Standing}
+use Rattle.control.specs.declared.Standing.the-variants.{Resting, Open}
 use Rattle.combining.specs.Combining.{combine}
 use Rattle.rows.specs.declared.Row.{Row}
 use Rattle.commands.specs.declared.Features.{Features}
@@ -15,7 +17,7 @@ use Rattle.commands.specs.declared.Command.the-variants.{PrefetchConfig, Prefet
 use Rattle.commands.specs.declared.Decoded.{Decoded}
 use Rattle.commands.specs.declared.Decoded.the-variants.{Legal, Illegal}
 use Rattle.commands.specs.Decoding.{decode, isCounted}
-use Rattle.scopes.specs.Scopes.{inScope}
+use Rattle.scopes.specs.Scopes.{idle, inScope}
 
 abbrev truth : Bool → ℕ
 truth b = pick b 1 0
@@ -38,10 +40,14 @@ spelled (Legal (TlbiS2Ipa vmid leaf page)) = 0x2A ∷ vmid ∷ truth leaf ∷ pa
 spelled (Legal TlbiNsnhAll) = 0x30 ∷ []
 spelled (Legal (Sync cs)) = 0x46 ∷ cs ∷ []
 
--- whether it is counted, and whether it removes a row; an illegal one does neither
+-- whether it is counted, whether it can remove no row, and whether it removes one; an illegal one does none of it
 abbrev counted : Decoded → ℕ
 counted Illegal = 0
 counted (Legal c) = truth (isCounted c)
+
+abbrev idling : Features → Decoded → ℕ
+idling f Illegal = 0
+idling f (Legal c) = truth (idle f c)
 
 abbrev removing : Features → Decoded → Row → ℕ
 removing f Illegal row = 0
@@ -60,6 +66,10 @@ steRow stream = record { w0 = 0x9; w1 = 0x40_0000_0000_0000 + stream; w2 = 0; w3
 abbrev stageRow : Row
 stageRow = record { w0 = 0x000f_1234_0005_018d; w1 = 0; w2 = 0; w3 = 0 }
 
+abbrev isOpen : Standing → ℕ
+isOpen (Resting rest) = 0
+isOpen Open = 1
+
 -- LOG2SIZE 8, RD 0x1ff, WR 0, enabled
 abbrev atTheWrap : ℕ
 atTheWrap = 0x22_0000_0000_01ff
@@ -75,18 +85,21 @@ starred =
     -- VMID 5 and ASID 0x1234; without ASID16 it stays legal and removes nothing
     (spelled (decode allYes 0x1234_0005_0000_0011 0), 0x11 ∷ 5 ∷ 0x1234 ∷ [])
     ∷ (spelled (decode noAsid16 0x1234_0005_0000_0011 0), 0x11 ∷ 5 ∷ 0x1234 ∷ [])
+    ∷ (idling allYes (decode allYes 0x1234_0005_0000_0011 0) ∷ idling noAsid16 (decode noAsid16 0x1234_0005_0000_0011 0) ∷ [], 0 ∷ 1 ∷ [])
     ∷ (removing allYes (decode allYes 0x1234_0005_0000_0011 0) stageRow ∷ removing noAsid16 (decode noAsid16 0x1234_0005_0000_0011 0) stageRow ∷ [], 1 ∷ 0 ∷ [])
     -- bit 10 of 03
     ∷ (spelled (decode allYes 0x0000_0100_0000_0003 1), 0x03 ∷ 0x100 ∷ 1 ∷ [])
     ∷ (spelled (decode allYes 0x0000_0100_0000_0403 1), [])
     -- streams 0x100 to 0x107 and neither neighbour; every stream
-    ∷ (byRange allYes 0xff ∷ byRange allYes 0x100 ∷ byRange allYes 0x107 ∷ byRange allYes 0x108 ∷ [], 0 ∷ 1 ∷ 1 ∷ 0 ∷ [])
+    ∷ (byRange allYes 0xff ∷ byRange allYes 0x100 ∷ byRange allYes 0x101 ∷ byRange allYes 0x102 ∷ byRange allYes 0x103 ∷ [], 0 ∷ 1 ∷ 1 ∷ 1 ∷ 1 ∷ [])
+    ∷ (byRange allYes 0x104 ∷ byRange allYes 0x105 ∷ byRange allYes 0x106 ∷ byRange allYes 0x107 ∷ byRange allYes 0x108 ∷ [], 1 ∷ 1 ∷ 1 ∷ 1 ∷ 0 ∷ [])
     ∷ (byWholeRange allYes 0 ∷ byWholeRange allYes 0x107 ∷ byWholeRange allYes 0xffff_ffff ∷ [], 1 ∷ 1 ∷ 1 ∷ [])
     -- CMD_SYNC
     ∷ (counted (decode allYes 0x1046 0) ∷ counted (decode allYes 0x2046 0) ∷ [], 1 ∷ 0 ∷ [])
     ∷ (spelled (decode allYes 0x2046 0), 0x46 ∷ 2 ∷ [])
     ∷ (spelled (decode allYes 0x3046 0), [])
     -- one command, in slot 255, after which RD is 0
+    ∷ (truth (control.wellFormed atTheWrap) ∷ isOpen (control.standing atTheWrap) ∷ [], 1 ∷ 1 ∷ [])
     ∷ (control.distance atTheWrap ∷ control.slot atTheWrap ∷ control.rd (stores.consumed atTheWrap) ∷ [], 1 ∷ 255 ∷ 0 ∷ [])
     -- pairs of attribute numbers
     ∷ (combine 8 20 ∷ combine 27 23 ∷ combine 2 1 ∷ [], 4 ∷ 24 ∷ 1 ∷ [])

@@ -16,7 +16,7 @@ use Rattle.rows.specs.Rows
 abbrev tag : List Range
 tag = Rows.validBits ∷ Rows.kindBits ∷ Rows.lastBits ∷ []
 
--- The parts named for each kind, not last-level and last-level: a list for each of the four words. Every other part is 0.
+-- The parts named for a row, a list for each of its four words: first the four kinds not last-level, then last-level. Every other part is 0.
 abbrev pub namedParts : List (List Range)
 namedParts =
     -- STE
@@ -83,7 +83,7 @@ steGood row =
     (knownConfig (Rows.config row) && attributes.memAttrFormed (Rows.newMemAttr row))
     ((eqb (Rows.span row) 6 || eqb (Rows.span row) 8 || eqb (Rows.span row) 10) && eqb (Rows.stream row % 2 ^ Rows.span row) 0)
 
--- addresses in rows have this many bits, and are multiples of the span
+-- addresses in rows have this many bits, and are multiples of 2 ^ span
 abbrev pub addressBits : ℕ
 addressBits = 52
 

@@ -46,7 +46,7 @@ cdAt row stream substream =
 unfoldable pub stageOf : Row → ℕ → ℕ → Bool
 stageOf row kind vmid = eqb (rows.kind row) kind && eqb (rows.vmid row) vmid
 
--- the address that a command's page names, by the 52 bits that its field has
+-- the address that a command's page names: at most 52 bits, and 12 zeros below them
 abbrev pub addressOf : ℕ → ℕ
 addressOf page = part 51 0 page * 2 ^ 12
 
@@ -82,7 +82,7 @@ removes (Sync cs) row = false
 abbrev pub narrow : Bool → ℕ → Bool
 narrow wide id = wide || eqb (part 15 8 id) 0
 
--- the commands that remove nothing: by their code, or since an identifier is too wide
+-- commands that remove nothing whatever the rows are: by their code, or since an identifier is too wide
 unfoldable pub idle : Features → Command → Bool
 idle f PrefetchConfig = true
 idle f PrefetchAddr = true

@@ -98,6 +98,13 @@ module _ (p : ℕ → Bool) (n : ℕ) where
 pub from-zero : (p : ℕ → Bool) (n : ℕ) → lowest p n 0 ≡ lowest p (n - 0) 0
 from-zero p n = ap (λ (k : ℕ). lowest p k 0) (let e : n ≡ n - 0 = omega arith in e)
 
+-- a search passes over a beginning where none passes
+pub passes-over : (p : ℕ → Bool) (n k : ℕ) → k ≤ n → ((j : ℕ) → j < k → p j ≡ false) → lowest p n 0 ≡ lowest p (n - k) k
+passes-over p n zero h f = from-zero p n
+passes-over p n (suc k) h f =
+    passes-over p n k (omega arith) (λ j l. f j (omega arith)) ∙ later p n k (omega arith) (f k (omega arith))
+    ∙ ap (λ (i : ℕ). lowest p (n - i) i) (add-one k)
+
 -- a count goes on by one
 module _ (p : ℕ → Bool) (n : ℕ) where
   pub count-here : p n ≡ true → count p (n + 1) ≡ count p n + 1
