@@ -1,0 +1,4 @@
+pub mod Scans
+pub mod Asked
+pub mod Turns
+pub mod Calling

@@ -1,0 +1,59 @@
+// One run over the command queue.
+mod running;
+mod steps;
+
+use commands::Features;
+use image::Checked;
+use image::Refusal;
+ghost use Rattle.runs.specs.Call.{Calls};
+
+// Why a run ended.
+pub enum End {
+    Off,
+    Held,
+    Empty,
+    Raised,
+    Cut,
+}
+
+// What a run did: commands consumed, stores made, rows removed, and consumed CMD_SYNCs with CS 1.
+pub struct Ran {
+    pub end: End,
+    pub consumed: u64,
+    pub stores: u64,
+    pub removed: u64,
+    pub syncs: u64,
+}
+
+// The one store that a step made.
+pub enum Stepped {
+    Removed(usize),
+    Consumed,
+    DidRaise,
+}
+
+// Why a run is refused: the image, or the queue's length.
+pub enum RunRefusal {
+    Image(Refusal),
+    BadQueue,
+}
+
+pub enum RunAnswer {
+    Refused(RunRefusal),
+    Done(Ran),
+}
+
+// Carries out the commands that wait, with at most allowance stores.
+pub fn run(kept: &mut [u64], queue: &[u8], f: Features, allowance: u64) -> RunAnswer
+    ensures { λ r. ⌜ Calls f (now (queue .entry)) allowance (now (kept .entry)) (now (kept .exit)) r ⌝ }
+{
+    let checked = image::check(&*kept);
+    if let Checked::Refused(why) = checked {
+        return RunAnswer::Refused(RunRefusal::Image(why));
+    }
+    if !running::queue_good(queue, kept[0]) {
+        return RunAnswer::Refused(RunRefusal::BadQueue);
+    }
+    let ran = running::go(&mut *kept, queue, f, allowance);
+    RunAnswer::Done(ran)
+}
