@@ -1,1 +1,3 @@
 pub mod Bench
+pub mod Resume
+pub mod Sums

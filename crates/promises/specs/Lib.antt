@@ -1,1 +1,3 @@
 pub mod Bench
+pub mod Cuts
+pub mod Sums

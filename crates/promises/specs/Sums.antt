@@ -1,0 +1,13 @@
+-- Document 01, One run: the sums.
+-- Assumes nothing.
+use Prim.Native.Nat.{ℕ}
+use Rattle.runs.specs.declared.End.{End}
+use Rattle.runs.specs.declared.End.the-variants.{Off, Held, Empty, Raised, Cut}
+
+-- one if Raised
+abbrev pub raise : End → ℕ
+raise Off = 0
+raise Held = 0
+raise Empty = 0
+raise Raised = 1
+raise Cut = 0
