@@ -1,3 +1,7 @@
 pub mod Bench
 pub mod Resume
 pub mod Sums
+pub mod Cases
+pub mod Accepted
+pub mod Potential
+pub mod Finding

@@ -2,6 +2,7 @@
 -- Assumes nothing.
 use Prim.Native.Nat.{ℕ}
 use Rattle.runs.specs.declared.End.{End}
+use Rattle.runs.specs.Due.{What, Remove, Consume, Raise}
 use Rattle.runs.specs.declared.End.the-variants.{Off, Held, Empty, Raised, Cut}
 
 -- one if Raised
@@ -11,3 +12,9 @@ raise Held = 0
 raise Empty = 0
 raise Raised = 1
 raise Cut = 0
+
+-- how many rows a store removes
+abbrev pub removedBy : What → ℕ
+removedBy Remove = 1
+removedBy (Consume y) = 0
+removedBy Raise = 0

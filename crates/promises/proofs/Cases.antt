@@ -1,0 +1,52 @@
+-- What single store is due in a run, case by case.
+-- Assumes nothing.
+use mathlib.Core.Path.{_≡_, refl, sym, ap, _∙_}
+use mathlib.Core.List.{List}
+use Prim.Native.Nat.{ℕ, _+_, _*_}
+use native.Mathlib.Omega.{arith}
+use lib.ListN.{set}
+use Rattle.words.specs.declared.Found.{Found}
+use Rattle.words.specs.declared.Found.the-variants.{At, Nothing}
+use Rattle.words.proofs.Search.{Lowest}
+use Rattle.control.specs.Control as control
+use Rattle.control.specs.Stores as control-stores
+use Rattle.control.specs.declared.Standing.{Standing}
+use Rattle.control.specs.declared.Standing.the-variants.{Resting, Open}
+use Rattle.commands.specs.declared.Features.{Features}
+use Rattle.commands.specs.declared.Command.{Command}
+use Rattle.commands.specs.declared.Decoded.{Decoded}
+use Rattle.commands.specs.declared.Decoded.the-variants.{Legal, Illegal}
+use Rattle.commands.specs.Decoding.{syncsOf}
+use Rattle.image.specs.Image.{rowsIn, controlOf}
+use Rattle.image.proofs.AfterStores.{cleared}
+use Rattle.runs.specs.Due.{What, Remove, Consume, Raise, Due, Rests, Stores, scopedAt, scan, byScan, dueFor, atRd, gate, due}
+use Rattle.runs.specs.Running.{Next, rests, stores, nextOf, dueIn}
+use Rattle.runs.proofs.Scans.{lowest-scoped}
+
+-- the store is one of three: the lowest row in scope of a legal command, the command itself once there is none, or the error
+pub data Case (f : Features) (queue m : List ℕ) (w : What) (m′ : List ℕ) : Type 0 where
+  removes : (c : Command) (i : ℕ) → atRd f queue m ≡ Legal c → Lowest (scopedAt f c m) (rowsIn m) 0 i → w ≡ Remove → m′ ≡ cleared m i → Case f queue m w m′
+  consumes : (c : Command) → atRd f queue m ≡ Legal c → scan f c m (rowsIn m) 0 ≡ Nothing → w ≡ Consume (syncsOf (Legal c)) → m′ ≡ set m 0 (control-stores.consumed (controlOf m)) → Case f queue m w m′
+  raises : atRd f queue m ≡ Illegal → w ≡ Raise → m′ ≡ set m 0 (control-stores.raised (controlOf m)) → Case f queue m w m′
+
+pub record IsDue (f : Features) (queue m : List ℕ) (w : What) (m′ : List ℕ) : Type 0 where
+  pub open-for-it : control.standing (controlOf m) ≡ Open
+  pub kind : Case f queue m w m′
+
+module _ (f : Features) (queue m : List ℕ) (w : What) (m′ : List ℕ) where
+  by-scan : (c : Command) → atRd f queue m ≡ Legal c → (x : Found) → scan f c m (rowsIn m) 0 ≡ x → nextOf (byScan c (controlOf m) x) m ≡ stores w m′ → Case f queue m w m′
+  by-scan c legal (At i) e s = removes c i legal (lowest-scoped f c m (rowsIn m) i e) (cc) (cc)
+  by-scan c legal Nothing e s = consumes c legal e (cc) (cc)
+
+  by-command : (d : Decoded) → atRd f queue m ≡ d → nextOf (dueFor f d m) m ≡ stores w m′ → Case f queue m w m′
+  unfolding dueFor
+  by-command (Legal c) e s = by-scan c e (scan f c m (rowsIn m) 0) refl s
+  by-command Illegal e s = raises e (cc) (cc)
+
+  by-standing : (st : Standing) → control.standing (controlOf m) ≡ st → nextOf (gate st (dueFor f (atRd f queue m) m)) m ≡ stores w m′ → IsDue f queue m w m′
+  by-standing (Resting r) e s = let z : _≡_ {A = ℕ} 0 1 = cc in absurd (omega arith)
+  by-standing Open e s = record { open-for-it = e; kind = by-command (atRd f queue m) refl s }
+
+  pub is-due : dueIn f queue m ≡ stores w m′ → IsDue f queue m w m′
+  unfolding due
+  is-due s = by-standing (control.standing (controlOf m)) refl s

@@ -1,0 +1,191 @@
+-- Demand 3: what is found after a run at every allowance.
+-- Assumes nothing.
+use mathlib.Core.Path.{_≡_, refl, sym, ap, _∙_}
+use mathlib.Core.Bool.{Bool, true, false}
+use mathlib.Core.List.{List}
+use mathlib.Core.Logic.{_⊎_, inl, inr, ⊎-elim}
+use Prim.Native.Nat.{ℕ, zero, suc, _+_, _*_, _≤_, _<_}
+use native.Mathlib.Decide.{ℕ-discrete}
+use native.Mathlib.Nat.{zero-add}
+use native.Mathlib.Numerals.{one-add}
+use native.Mathlib.Omega.{arith}
+use lib.ListN.{length, getD, set, length-set}
+use lib.Seq.{getD-set-same, getD-set-other}
+use Rattle.words.specs.declared.Found.the-variants.{Nothing}
+use Rattle.words.proofs.Search.{Lowest, from-zero, none}
+use Rattle.words.proofs.Truth.{clash, decided}
+use Rattle.control.specs.Control as control
+use Rattle.control.specs.Stores as control-stores
+use Rattle.control.specs.declared.Rest.{Rest}
+use Rattle.control.specs.declared.Rest.the-variants.{Off as Rest·Off, Held as Rest·Held, Empty as Rest·Empty}
+use Rattle.commands.specs.declared.Features.{Features}
+use Rattle.commands.specs.declared.Command.{Command}
+use Rattle.commands.specs.declared.Decoded.{Decoded}
+use Rattle.commands.specs.declared.Decoded.the-variants.{Legal, Illegal}
+use Rattle.scopes.specs.Scopes.{inScope}
+use Rattle.scopes.proofs.Laws.{empty-spared}
+use Rattle.rows.specs.declared.Row.{Row}
+use Rattle.rows.specs.Rows.{isEmpty}
+use Rattle.image.specs.Image.{rowsIn, controlOf, rowAt}
+use Rattle.image.proofs.Checks.{Accepts, rows-are}
+use Rattle.image.proofs.AfterStores.{cleared, cleared-control, cleared-other, row-kept, InRow}
+use Rattle.runs.specs.declared.End.{End}
+use Rattle.runs.specs.declared.End.the-variants.{Off, Held, Empty, Raised, Cut}
+use Rattle.runs.specs.Due.{What, Remove, Consume, Raise, scopedAt, scan, atRd}
+use Rattle.runs.specs.Running.{Out, Next, rests, stores, rested, plus, last, next, runBy, dueIn, run, endOf}
+use Rattle.runs.proofs.Scans.{gone as gone-now, others as others-scoped}
+use Rattle.promises.specs.Found.{advanced, commandAt, closing, WasInScope, Found}
+use Rattle.promises.proofs.Cases.{Case, removes, consumes, raises, IsDue, is-due}
+use Rattle.promises.proofs.Accepted.{store-accepted}
+
+module _ (f : Features) (queue : List ℕ) (n : ℕ) where
+  -- nothing happened
+  still : (e : End) (m : List ℕ) → closing e (controlOf m) ≡ controlOf m → Found f queue n 0 e m m
+  unfolding advanced
+  still e m same =
+      record {
+        control-word = sym same;
+        gone = λ t i c h. absurd (omega arith);
+        early = λ i h. inl refl;
+        others = λ p a b. refl;
+        long = refl
+      }
+
+  rest-still : (r : Rest) (m : List ℕ) → Found f queue n 0 (endOf r) m m
+  rest-still Rest·Off m = still Off m refl
+  rest-still Rest·Held m = still Held m refl
+  rest-still Rest·Empty m = still Empty m refl
+
+  -- the error was raised
+  raised-found : (m : List ℕ) → 0 < length m → Found f queue n 0 Raised m (set m 0 (control-stores.raised (controlOf m)))
+  unfolding advanced
+  raised-found m room =
+      let v = control-stores.raised (controlOf m) in
+      record {
+        control-word = getD-set-same m 0 v 0 room;
+        gone = λ t i c h. absurd (omega arith);
+        early = λ i h. inl (getD-set-other m 0 (4 * i + 1) v 0 (omega arith));
+        others = λ p a b. getD-set-other m 0 p v 0 a;
+        long = length-set m 0 v
+      }
+
+  -- a row went, and the run went on
+  after-remove : (m m₂ : List ℕ) (k : ℕ) (e : End) (c : Command) (i : ℕ) → Accepts m n → atRd f queue m ≡ Legal c → Lowest (scopedAt f c m) (rowsIn m) 0 i
+      → Found f queue n k e (cleared m i) m₂ → Found f queue n k e m m₂
+  unfolding advanced
+  after-remove m m₂ k e c i a legal low later =
+      let word = cleared-control m i in
+      let below : i < n = rw (rows-are m n (a .size)) at (low .below) in
+      let room : 4 * i + 1 < length m = omega (arith, a .size .words) in
+      let here : WasInScope f queue m k i = record { which = 0; command = c; reached = omega arith; is-command = legal; in-scope = low .passes } in
+      record {
+        control-word = later .control-word ∙ ap (λ (w : ℕ). closing e (advanced k w)) word;
+        gone = λ t j d h l is. later .gone t j d h l (ap (λ (w : ℕ). commandAt f queue w t) word ∙ is);
+        early = λ j h. each here word room j h (ℕ-discrete j i) (later .early j h);
+        others = λ p x y. later .others p x y ∙ getD-set-other m (4 * i + 1) p 0 0 (λ q. y i below q);
+        long = later .long ∙ length-set m (4 * i + 1) 0
+      }
+    where
+      each : WasInScope f queue m k i → controlOf (cleared m i) ≡ controlOf m → 4 * i + 1 < length m → (j : ℕ) → j < n → Dec (j ≡ i)
+          → (getD m₂ (4 * j + 1) 0 ≡ getD (cleared m i) (4 * j + 1) 0) ⊎ ((getD m₂ (4 * j + 1) 0 ≡ 0) × WasInScope f queue (cleared m i) k j)
+          → (getD m₂ (4 * j + 1) 0 ≡ getD m (4 * j + 1) 0) ⊎ ((getD m₂ (4 * j + 1) 0 ≡ 0) × WasInScope f queue m k j)
+      each here word room j h (yes s) was =
+          inr (⊎-elim (λ q. q ∙ rw s (getD-set-same m (4 * i + 1) 0 0 room)) (λ z. z .0) was, rw s here)
+      each here word room j h (no d) was =
+          ⊎-elim
+          (λ q. inl (q ∙ getD-set-other m (4 * i + 1) (4 * j + 1) 0 0 (λ p. d (omega arith))))
+          (λ z. inr
+          (z .0,
+          record {
+            which = z .1 .which;
+            command = z .1 .command;
+            reached = z .1 .reached;
+            is-command = ap (λ (w : ℕ). commandAt f queue w (z .1 .which)) (sym word) ∙ z .1 .is-command;
+            in-scope = sym (others-scoped f (z .1 .command) m i j d) ∙ z .1 .in-scope
+          }))
+          was
+
+  -- a row after the run is as it was, or empty
+  row-after : (m m₂ : List ℕ) (k : ℕ) (e : End) → Found f queue n k e m m₂ → (i : ℕ) → i < n → (rowAt m₂ i ≡ rowAt m i) ⊎ (isEmpty (rowAt m₂ i) ≡ true)
+  unfolding rowAt
+  row-after m m₂ k e found i h =
+      let kept : (q : ℕ) → 2 ≤ q → q ≤ 4 → getD m₂ (4 * i + q) 0 ≡ getD m (4 * i + q) 0 =
+      λ q a b. found .others (4 * i + q) (omega arith) (λ j l s. omega arith) in
+      ⊎-elim
+      (λ s. inl (rw (s, kept 2 (omega arith) (omega arith), kept 3 (omega arith) (omega arith), kept 4 (omega arith) (omega arith))))
+      (λ z. inr (rw (z .0)))
+      (found .early i h)
+
+  -- so what was in no scope stays in none
+  never-again : (m m₂ : List ℕ) (k : ℕ) (e : End) → Found f queue n k e m m₂ → (c : Command) (i : ℕ) → i < n → scopedAt f c m i ≡ false → scopedAt f c m₂ i ≡ false
+  unfolding scopedAt
+  never-again m m₂ k e found c i h out =
+      ⊎-elim (λ s. ap (λ (row : Row). inScope f c row) s ∙ out) (λ z. empty-spared f c (rowAt m₂ i) z) (row-after m m₂ k e found i h)
+
+  -- a store to the control word leaves every scope
+  same-row : (m : List ℕ) (v : ℕ) (d : Command) (i : ℕ) → scopedAt f d (set m 0 v) i ≡ scopedAt f d m i
+  unfolding scopedAt
+  same-row m v d i = ap (λ (row : Row). inScope f d row) (row-kept m 0 v i (λ r. omega (arith, r .from)))
+
+  -- a command was consumed, and the run went on
+  after-consume : (m m₂ : List ℕ) (k : ℕ) (e : End) (c : Command) → Accepts m n → atRd f queue m ≡ Legal c → scan f c m (rowsIn m) 0 ≡ Nothing
+      → Found f queue n k e (set m 0 (control-stores.consumed (controlOf m))) m₂ → Found f queue n (suc k) e m m₂
+  unfolding advanced
+  after-consume m m₂ k e c a legal nothing later =
+      record {
+        control-word = later .control-word ∙ ap (λ (w : ℕ). closing e (advanced k w)) word;
+        gone = went;
+        early = λ i h. ⊎-elim (λ q. inl (q ∙ getD-set-other m 0 (4 * i + 1) v 0 (omega arith))) (λ z. inr (z .0, onward i (z .1))) (later .early i h);
+        others = λ p x y. later .others p x y ∙ getD-set-other m 0 p v 0 x;
+        long = later .long ∙ length-set m 0 v
+      }
+    where
+      v : ℕ
+      v = control-stores.consumed (controlOf m)
+
+      word : controlOf (set m 0 v) ≡ v
+      word = getD-set-same m 0 v 0 (omega (arith, a .size .words))
+
+      went : (t i : ℕ) (d : Command) → t < suc k → i < n → commandAt f queue (controlOf m) t ≡ Legal d → scopedAt f d m₂ i ≡ false
+      went zero i d h l is =
+          let same : d ≡ c = cc in
+          never-again (set m 0 v) m₂ k e later d i l
+          (same-row m v d i ∙ rw same (none (scopedAt f c m) (rowsIn m) 0 (omega arith) (sym (from-zero (scopedAt f c m) (rowsIn m)) ∙ nothing) i (omega arith) (rw (rows-are m n (a .size)) l)))
+      went (suc t) i d h l is = later .gone t i d (omega arith) l (ap (λ (w : ℕ). commandAt f queue w t) word ∙ is)
+
+      onward : (i : ℕ) → WasInScope f queue (set m 0 v) k i → WasInScope f queue m (suc k) i
+      onward i z =
+          record {
+            which = suc (z .which);
+            command = z .command;
+            reached = omega (arith, z .reached);
+            is-command = ap (λ (w : ℕ). commandAt f queue w (z .which)) (sym word) ∙ z .is-command;
+            in-scope = sym (same-row m v (z .command) i) ∙ z .in-scope
+          }
+
+  abbrev After : List ℕ → Out (List ℕ) → Type 0
+  After m o = Found f queue n (o .ran .consumed) (o .ran .end) m (o .memory)
+
+  by-case : (k : ℕ) (m m′ : List ℕ) (w : What) → Accepts m n → dueIn f queue m ≡ stores w m′ → ((m″ : List ℕ) → Accepts m″ n → After m″ (run f queue k m″))
+      → Case f queue m w m′ → After m (next (run f queue k) (stores w m′) m)
+  by-case k m m′ w a e ih (removes c i legal low what stored) =
+      let accepted : Accepts (cleared m i) n = rw stored at (store-accepted f queue n m m′ w a e) in
+      rw (what, stored, zero-add) (after-remove m _ _ _ c i a legal low (ih (cleared m i) accepted))
+  by-case k m m′ w a e ih (consumes c legal nothing what stored) =
+      let accepted = rw stored at (store-accepted f queue n m m′ w a e) in
+      rw (what, stored, one-add) (after-consume m _ _ _ c a legal nothing (ih _ accepted))
+  by-case k m m′ w a e ih (raises illegal what stored) = rw (what, stored) (raised-found m (omega (arith, a .size .words)))
+
+  by-next : (k : ℕ) (m : List ℕ) (d : Next (List ℕ)) → dueIn f queue m ≡ d → Accepts m n → ((m″ : List ℕ) → Accepts m″ n → After m″ (run f queue k m″)) → After m (next (run f queue k) d m)
+  by-next k m (rests r) e a ih = rest-still r m
+  by-next k m (stores w m′) e a ih = by-case k m m′ w a e ih (is-due f queue m w m′ e .kind)
+
+  by-last : (m : List ℕ) (d : Next (List ℕ)) → After m (last d m)
+  by-last m (rests r) = rest-still r m
+  by-last m (stores w m′) = still Cut m refl
+
+  -- for every allowance, and whatever the end
+  pub found-after : (k : ℕ) (m : List ℕ) → Accepts m n → Found f queue n (run f queue k m .ran .consumed) (run f queue k m .ran .end) m (run f queue k m .memory)
+  unfolding runBy
+  found-after zero m a = by-last m (dueIn f queue m)
+  found-after (suc k) m a = by-next k m (dueIn f queue m) refl a (λ m″ b. found-after k m″ b)
