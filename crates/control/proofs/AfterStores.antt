@@ -23,7 +23,7 @@ index-fits : (w i : ℕ) → Formed w → i < indexes.turn (log2size w) → i < 
 index-fits w i f h = lt-of-lt-of-le h (pow-mono {j = 20} (omega (arith, f .small)))
 
 -- active goes by the two error bits alone
-same-active : (w w′ : ℕ) → gerror w′ ≡ gerror w → gerrorn w′ ≡ gerrorn w → active w′ ≡ active w
+pub same-active : (w w′ : ℕ) → gerror w′ ≡ gerror w → gerrorn w′ ≡ gerrorn w → active w′ ≡ active w
 unfolding active
 same-active w w′ p q = ap₂ (λ (x y : ℕ). not (eqb x y)) p q
 

@@ -5,3 +5,4 @@ pub mod Cases
 pub mod Accepted
 pub mod Potential
 pub mod Finding
+pub mod IllegalCommands
