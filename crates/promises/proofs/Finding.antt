@@ -48,7 +48,7 @@ module _ (f : Features) (queue : List ℕ) (n : ℕ) where
         gone = λ t i c h. absurd (omega arith);
         early = λ i h. inl refl;
         others = λ p a b. refl;
-        long = refl
+        long = refl;
       }
 
   rest-still : (r : Rest) (m : List ℕ) → Found f queue n 0 (endOf r) m m
@@ -66,7 +66,7 @@ module _ (f : Features) (queue : List ℕ) (n : ℕ) where
         gone = λ t i c h. absurd (omega arith);
         early = λ i h. inl (getD-set-other m 0 (4 * i + 1) v 0 (omega arith));
         others = λ p a b. getD-set-other m 0 p v 0 a;
-        long = length-set m 0 v
+        long = length-set m 0 v;
       }
 
   -- a row went, and the run went on
@@ -83,7 +83,7 @@ module _ (f : Features) (queue : List ℕ) (n : ℕ) where
         gone = λ t j d h l is. later .gone t j d h l (ap (λ (w : ℕ). commandAt f queue w t) word ∙ is);
         early = λ j h. each here word room j h (ℕ-discrete j i) (later .early j h);
         others = λ p x y. later .others p x y ∙ getD-set-other m (4 * i + 1) p 0 0 (λ q. y i below q);
-        long = later .long ∙ length-set m (4 * i + 1) 0
+        long = later .long ∙ length-set m (4 * i + 1) 0;
       }
     where
       each : WasInScope f queue m k i → controlOf (cleared m i) ≡ controlOf m → 4 * i + 1 < length m → (j : ℕ) → j < n → Dec (j ≡ i)
@@ -94,15 +94,16 @@ module _ (f : Features) (queue : List ℕ) (n : ℕ) where
       each here word room j h (no d) was =
           ⊎-elim
           (λ q. inl (q ∙ getD-set-other m (4 * i + 1) (4 * j + 1) 0 0 (λ p. d (omega arith))))
-          (λ z. inr
-          (z .0,
-          record {
-            which = z .1 .which;
-            command = z .1 .command;
-            reached = z .1 .reached;
-            is-command = ap (λ (w : ℕ). commandAt f queue w (z .1 .which)) (sym word) ∙ z .1 .is-command;
-            in-scope = sym (others-scoped f (z .1 .command) m i j d) ∙ z .1 .in-scope
-          }))
+          (λ z. inr (
+            z .0,
+            record {
+              which = z .1 .which;
+              command = z .1 .command;
+              reached = z .1 .reached;
+              is-command = ap (λ (w : ℕ). commandAt f queue w (z .1 .which)) (sym word) ∙ z .1 .is-command;
+              in-scope = sym (others-scoped f (z .1 .command) m i j d) ∙ z .1 .in-scope;
+            },
+          ))
           was
 
   -- a row after the run is as it was, or empty
@@ -137,7 +138,7 @@ module _ (f : Features) (queue : List ℕ) (n : ℕ) where
         gone = went;
         early = λ i h. ⊎-elim (λ q. inl (q ∙ getD-set-other m 0 (4 * i + 1) v 0 (omega arith))) (λ z. inr (z .0, onward i (z .1))) (later .early i h);
         others = λ p x y. later .others p x y ∙ getD-set-other m 0 p v 0 x;
-        long = later .long ∙ length-set m 0 v
+        long = later .long ∙ length-set m 0 v;
       }
     where
       v : ℕ
@@ -160,7 +161,7 @@ module _ (f : Features) (queue : List ℕ) (n : ℕ) where
             command = z .command;
             reached = omega (arith, z .reached);
             is-command = ap (λ (w : ℕ). commandAt f queue w (z .which)) (sym word) ∙ z .is-command;
-            in-scope = sym (same-row m v (z .command) i) ∙ z .in-scope
+            in-scope = sym (same-row m v (z .command) i) ∙ z .in-scope;
           }
 
   abbrev After : List ℕ → Out (List ℕ) → Type 0

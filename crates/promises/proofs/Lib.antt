@@ -6,3 +6,4 @@ pub mod Accepted
 pub mod Potential
 pub mod Finding
 pub mod IllegalCommands
+pub mod LegalCommands

@@ -2,3 +2,4 @@ pub mod Bench
 pub mod Cuts
 pub mod Sums
 pub mod Found
+pub mod Swept

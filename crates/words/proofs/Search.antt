@@ -11,7 +11,7 @@ use Rattle.words.specs.Choice.{pick}
 use Rattle.words.specs.declared.Found.{Found}
 use Rattle.words.specs.declared.Found.the-variants.{At, Nothing}
 use Rattle.words.specs.Search.{lowest, count}
-use Rattle.words.proofs.Truth.{clash}
+use Rattle.words.proofs.Truth.{clash, decided}
 
 -- k is the lowest number from i on and below n that passes
 pub record Lowest (p : ℕ → Bool) (n i k : ℕ) : Type 0 where
@@ -145,3 +145,21 @@ count-less p q (suc n) i h a b f =
     (λ l. let e : count p n ≡ suc (count q n) = count-less p q n i l a b (λ j k d. f j (omega arith) d) in
     rw (f n (omega arith) (omega arith), e) (omega arith))
     (eq-or-lt-of-le (le-of-suc-le-suc h))
+
+count-passes : (p : ℕ → Bool) (n i : ℕ) → i < n → p i ≡ true → 1 ≤ count p n
+unfolding count
+count-passes p zero i h t = absurd (omega arith)
+count-passes p (suc n) i h t =
+    ⊎-elim (λ s. rw (← s, t) (omega arith)) (λ l. omega (arith, count-passes p n i l t)) (eq-or-lt-of-le (le-of-suc-le-suc h))
+
+-- a count of 0: none passes
+pub count-none-passes : (p : ℕ → Bool) (n : ℕ) → count p n ≡ 0 → (i : ℕ) → i < n → p i ≡ false
+count-none-passes p n e i h = ⊎-elim (λ t. absurd (omega (arith, e, more t))) (λ f. f) (decided (p i))
+  where
+    more : p i ≡ true → 1 ≤ count p n
+    more t = count-passes p n i h t
+
+pub none-pass-count : (p : ℕ → Bool) (n : ℕ) → ((j : ℕ) → j < n → p j ≡ false) → count p n ≡ 0
+unfolding count
+none-pass-count p zero f = refl
+none-pass-count p (suc n) f = rw (f n (omega arith), none-pass-count p n (λ j h. f j (omega arith)))

@@ -1,0 +1,50 @@
+-- `control_calls::doorbell` meets its contract: each return is a case of the definition.
+-- Assumes nothing.
+use mathlib.Core.Path.{_≡_, sym, _∙_}
+use denote.Ref.{now}
+use borrow.Author.Tests.{not-true, not-false}
+use Rattle.image.specs.declared.Checked.the-variants.{Accepted}
+use Rattle.image.specs.Image.{check}
+use Rattle.control_calls.proofs.Cases.{has-control, rings, doorbell-image, doorbell-index, doorbell-rings}
+use borrow.Author.Needs.{needs}
+use Rattle.control_calls.proofs.doorbell.Statement.{statement}
+use Rattle.control_calls.proofs.doorbell.Tie as tie
+
+-- past the check of the image
+accepted : (c : tie.After-enum-told) → check (now (c .before .before .before .before .before .args .kept)) ≡ Accepted (c .enum-told .given .0 .0)
+accepted c = sym (c .before .before .check .ensures) ∙ c .enum-told .given .1
+
+slice-read-w : tie.Need-slice-read-w
+slice-read-w c = has-control _ _ (accepted (c .before))
+
+returns : tie.Need-returns
+returns c = rings (doorbell-index _ _ _ (accepted (c .before .before .before)) (sym (c .before .may-ring .ensures) ∙ not-true _ (c .if1 .taken)))
+
+slice-write-kept : tie.Need-slice-write-kept
+slice-write-kept c = has-control _ _ (accepted (c .before .before .before .before))
+
+returns-2 : tie.Need-returns-2
+returns-2 c = rings (doorbell-image _ _ _ (sym (c .before .before .before .check .ensures) ∙ c .before .why .given .1))
+
+returns-3 : tie.Need-returns-3
+returns-3 c =
+    rings (rw (c .rung .ensures) (doorbell-rings _ _ _ (accepted (c .before .before .before .before))
+    (sym (c .before .before .may-ring .ensures) ∙ not-false _ (c .before .if1 .left))))
+
+pub doorbell-spec : {M : Type 1} → statement M
+doorbell-spec =
+    tie.close
+    (tie.spec
+    (λ c κs. search needs)
+    (λ c. search needs)
+    (λ c. search needs)
+    slice-read-w
+    (λ c κs. search needs)
+    (λ c. search needs)
+    returns
+    (λ c κs. search needs)
+    slice-write-kept
+    (λ c. search needs)
+    returns-2
+    (λ c. search needs)
+    returns-3)

@@ -1,0 +1,79 @@
+// The calls that store only the control word: doorbell, acknowledge, enable or disable. Each makes one store, or none.
+use image::Checked;
+ghost use Rattle.control_calls.specs.Calls.{Rings, Acknowledges, Enables};
+
+// Why a doorbell is refused: the image, or an index that WR may not become.
+pub enum DoorbellRefusal {
+    Image(image::Refusal),
+    BadIndex,
+}
+
+pub enum DoorbellAnswer {
+    Refused(DoorbellRefusal),
+    Rung,
+}
+
+// Why an acknowledge is refused: the image, or no error to acknowledge.
+pub enum AcknowledgeRefusal {
+    Image(image::Refusal),
+    NoError,
+}
+
+pub enum AcknowledgeAnswer {
+    Refused(AcknowledgeRefusal),
+    Acknowledged,
+}
+
+// Enabling and disabling are refused for the image only.
+pub enum EnableAnswer {
+    Refused(image::Refusal),
+    Switched,
+}
+
+// WR becomes wr.
+pub fn doorbell(kept: &mut [u64], wr: u64) -> DoorbellAnswer
+    ensures { λ r. ⌜ Rings (now (kept .entry)) wr (now (kept .exit)) r ⌝ }
+{
+    match image::check(&*kept) {
+        Checked::Refused(why) => DoorbellAnswer::Refused(DoorbellRefusal::Image(why)),
+        Checked::Accepted(_) => {
+            let w = kept[0];
+            if !control::may_ring(w, wr) {
+                return DoorbellAnswer::Refused(DoorbellRefusal::BadIndex);
+            }
+            kept[0] = control::rung(w, wr);
+            DoorbellAnswer::Rung
+        }
+    }
+}
+
+// GERRORN becomes equal to GERROR; the error code stays to be read.
+pub fn acknowledge(kept: &mut [u64]) -> AcknowledgeAnswer
+    ensures { λ r. ⌜ Acknowledges (now (kept .entry)) (now (kept .exit)) r ⌝ }
+{
+    match image::check(&*kept) {
+        Checked::Refused(why) => AcknowledgeAnswer::Refused(AcknowledgeRefusal::Image(why)),
+        Checked::Accepted(_) => {
+            let w = kept[0];
+            if !control::active(w) {
+                return AcknowledgeAnswer::Refused(AcknowledgeRefusal::NoError);
+            }
+            kept[0] = control::acknowledged(w);
+            AcknowledgeAnswer::Acknowledged
+        }
+    }
+}
+
+// CMDQEN becomes on.
+pub fn enable(kept: &mut [u64], on: bool) -> EnableAnswer
+    ensures { λ r. ⌜ Enables (now (kept .entry)) on (now (kept .exit)) r ⌝ }
+{
+    match image::check(&*kept) {
+        Checked::Refused(why) => EnableAnswer::Refused(why),
+        Checked::Accepted(_) => {
+            let w = kept[0];
+            kept[0] = control::switched(w, on);
+            EnableAnswer::Switched
+        }
+    }
+}

@@ -1,0 +1,249 @@
+-- What a fill leaves at every allowance, and what repeating it does.
+-- Document 01, One run, of filling; and the slip of storing word 0 first, which half-filled rules out.
+-- Assumes nothing.
+use mathlib.Core.Path.{_≡_, refl, sym, ap, _∙_}
+use mathlib.Core.Bool.{Bool, true, false, not}
+use mathlib.Core.List.{List}
+use mathlib.Core.Logic.{_⊎_, inl, inr, ⊎-elim}
+use Prim.Native.Nat.{ℕ, _+_, _*_, _≤_, _<_}
+use native.Mathlib.Decide.{ℕ-discrete}
+use native.Mathlib.Omega.{arith}
+use lib.Dec.{eqb}
+use lib.ListN.{length, getD, set}
+use lib.Seq.{getD-set-same, getD-set-other, set-set, set-comm}
+use borrow.Author.Tests.{not-true, not-false}
+use Rattle.words.specs.Stores.{afterStores}
+use Rattle.words.proofs.Truth.{left, right, and-true, less-or-not}
+use Rattle.rows.specs.declared.Row.{Row}
+use Rattle.rows.specs.Rows.{isEmpty}
+use Rattle.rows.specs.WellFormed as rows
+use Rattle.image.specs.declared.Checked.{Checked}
+use Rattle.image.specs.declared.Checked.the-variants.{Accepted, Refused}
+use Rattle.image.specs.Image.{controlOf, rowAt, isUsed, check}
+use Rattle.image.proofs.Checks.{Accepts, accepts, says}
+use Rattle.image.proofs.AfterStores.{InRow, row-kept, control-kept, empty-formed}
+use Rattle.fills.specs.declared.FillEnd.the-variants.{Filled, Cut}
+use Rattle.fills.specs.declared.FillRefusal.{FillRefusal}
+use Rattle.fills.specs.declared.FillRefusal.the-variants.{Image, NoSuchRow, RowInUse, Unfit}
+use Rattle.fills.specs.declared.FillAnswer.{FillAnswer}
+use Rattle.fills.specs.declared.FillAnswer.the-variants.{Refused as NotFilled, Done}
+use Rattle.fills.specs.Fills.{fillStores, fit, report, Outcome, refused, fill, Fills}
+use Rattle.fills.proofs.Order.{each-place, after-all, after-length, report-cut, report-filled}
+use Rattle.fills.proofs.Cases.{done, fill-image, fill-no-row, fill-in-use, fill-unfit, fill-done}
+
+-- a fill that no refusal stops
+pub record Carried (m : List ℕ) (n row : ℕ) (words : Row) : Type 0 where
+  pub image : Accepts m n
+  pub below : row < n
+  pub empty : isEmpty (rowAt m row) ≡ true
+  pub formed : rows.wellFormed words ≡ true
+  pub some : isEmpty words ≡ false
+
+module _ (row : ℕ) (words : Row) where
+  -- the memory after k of the stores
+  abbrev after : ℕ → List ℕ → List ℕ
+  after k m = afterStores k (fillStores row words) m
+
+  after-enough : (k : ℕ) (m : List ℕ) → 4 ≤ k → after k m ≡ after 4 m
+  after-enough k m h = after-all k (fillStores row words) m h
+
+  -- what each store into the row keeps, every allowance keeps
+  keeps : (P : List ℕ → Type 0) → ((m : List ℕ) (p v : ℕ) → InRow row p → P m → P (set m p v)) → (k : ℕ) (m : List ℕ) → P m → P (after k m)
+  unfolding afterStores
+  keeps P s k m p =
+      let in-row : (d : ℕ) → 1 ≤ d → d ≤ 4 → InRow row (4 * row + d) = λ d a b. record { from = omega arith; to = omega arith } in
+      let p1 : P (after 1 m) = s m (4 * row + 2) (words .w1) (in-row 2 (omega arith) (omega arith)) p in
+      let p2 : P (after 2 m) = s (after 1 m) (4 * row + 3) (words .w2) (in-row 3 (omega arith) (omega arith)) p1 in
+      let p3 : P (after 3 m) = s (after 2 m) (4 * row + 4) (words .w3) (in-row 4 (omega arith) (omega arith)) p2 in
+      let p4 : P (after 4 m) = s (after 3 m) (4 * row + 1) (words .w0) (in-row 1 (omega arith) (omega arith)) p3 in
+      ⊎-elim (each-place (λ j. P (after j m)) p p1 p2 p3 k) (λ h. rw (after-enough k m h) p4) (less-or-not k 4)
+
+  -- word 0 waits for the last store
+  waits : (m : List ℕ) (k : ℕ) → k < 4 → getD (after k m) (4 * row + 1) 0 ≡ getD m (4 * row + 1) 0
+  unfolding afterStores
+  waits m =
+      let other : (l : List ℕ) (d v : ℕ) → 2 ≤ d → getD (set l (4 * row + d) v) (4 * row + 1) 0 ≡ getD l (4 * row + 1) 0 =
+      λ l d v h. getD-set-other l (4 * row + d) (4 * row + 1) v 0 (omega arith) in
+      let e1 = other m 2 (words .w1) (omega arith) in
+      let e2 = other (after 1 m) 3 (words .w2) (omega arith) ∙ e1 in
+      let e3 = other (after 2 m) 4 (words .w3) (omega arith) ∙ e2 in
+      each-place (λ k. getD (after k m) (4 * row + 1) 0 ≡ getD m (4 * row + 1) 0) refl e1 e2 e3
+
+  -- then the row holds the four words
+  holds-words : (m : List ℕ) → 4 * row + 5 ≤ length m → rowAt (after 4 m) row ≡ words
+  unfolding afterStores rowAt
+  holds-words m h =
+      let other : (l : List ℕ) (d e v : ℕ) → (e ≡ d → ⊥) → getD (set l (4 * row + d) v) (4 * row + e) 0 ≡ getD l (4 * row + e) 0 =
+      λ l d e v ne. getD-set-other l (4 * row + d) (4 * row + e) v 0 (omega (arith, ne)) in
+      let here : (k d v : ℕ) → d ≤ 4 → getD (set (after k m) (4 * row + d) v) (4 * row + d) 0 ≡ v =
+      λ k d v le. getD-set-same (after k m) (4 * row + d) v 0 (omega (arith, after-length k (fillStores row words) m)) in
+      rw (
+        here 3 1 (words .w0) (omega arith),
+        other (after 3 m) 1 2 (words .w0) (omega arith),
+        other (after 2 m) 4 2 (words .w3) (omega arith),
+        other (after 1 m) 3 2 (words .w2) (omega arith),
+        here 0 2 (words .w1) (omega arith),
+        other (after 3 m) 1 3 (words .w0) (omega arith),
+        other (after 2 m) 4 3 (words .w3) (omega arith),
+        here 1 3 (words .w2) (omega arith),
+        other (after 3 m) 1 4 (words .w0) (omega arith),
+        here 2 4 (words .w3) (omega arith),
+      )
+
+  -- the whole list of stores takes back no less than what a part of it left
+  over-cut : (m : List ℕ) (k : ℕ) → k < 4 → after 4 (after k m) ≡ after 4 m
+  unfolding afterStores
+  over-cut m =
+      let o1 : (l : List ℕ) → after 4 (set l (4 * row + 2) (words .w1)) ≡ after 4 l = λ l. rw set-set in
+      let o2 : (l : List ℕ) → after 4 (set l (4 * row + 3) (words .w2)) ≡ after 4 l =
+      λ l. rw (set-comm l (4 * row + 3) (4 * row + 2) (words .w2) (words .w1) (omega arith), set-set) in
+      let o3 : (l : List ℕ) → after 4 (set l (4 * row + 4) (words .w3)) ≡ after 4 l =
+      λ l. rw (
+        set-comm l (4 * row + 4) (4 * row + 2) (words .w3) (words .w1) (omega arith),
+        set-comm (after 1 l) (4 * row + 4) (4 * row + 3) (words .w3) (words .w2) (omega arith),
+        set-set,
+      ) in
+      each-place (λ k. after 4 (after k m) ≡ after 4 m) refl (o1 m) (o2 (after 1 m) ∙ o1 m) (o3 (after 2 m) ∙ o2 (after 1 m) ∙ o1 m)
+
+module _ (m : List ℕ) (n row : ℕ) (words : Row) (c : Carried m n row words) where
+  pub carried : (k : ℕ) → fill m row words k ≡ done m row words k
+  unfolding isUsed fit
+  carried k =
+      fill-done m row words k n (accepts m n (c .image)) (c .below) (ap not (c .empty)) (and-true (c .formed) (ap not (c .some)))
+
+  -- the memory that it leaves, store by store
+  abbrev leaves : ℕ → List ℕ
+  leaves k = fill m row words k .memory
+
+  pub left-by : (k : ℕ) → leaves k ≡ afterStores k (fillStores row words) m
+  left-by k = ap (λ (o : Outcome). o .memory) (carried k)
+
+  room : 4 * row + 5 ≤ length m
+  room = omega (arith, c .image .size .words, c .below)
+
+  -- enough: with four stores or more it ends Filled, with less it ends Cut, each with the stores it made
+  pub enough : (k : ℕ) → 4 ≤ k → fill m row words k .answer ≡ Done (record { end = Filled; stores = 4 })
+  enough k h = ap (λ (o : Outcome). o .answer) (carried k) ∙ ap Done (report-filled k h)
+
+  pub not-enough : (k : ℕ) → k < 4 → fill m row words k .answer ≡ Done (record { end = Cut; stores = k })
+  not-enough k h = ap (λ (o : Outcome). o .answer) (carried k) ∙ ap Done (report-cut k h)
+
+  -- at every allowance the other rows and the control word stay
+  pub other-rows-kept : (k j : ℕ) → (j ≡ row → ⊥) → rowAt (leaves k) j ≡ rowAt m j
+  other-rows-kept k j d =
+      rw (left-by k)
+      (keeps row words (λ l. rowAt l j ≡ rowAt m j)
+      (λ l p v r e. row-kept l p v j (λ q. d (omega (arith, q .from, q .to, r .from, r .to))) ∙ e) k m refl)
+
+  pub control-word-kept : (k : ℕ) → controlOf (leaves k) ≡ controlOf m
+  control-word-kept k =
+      rw (left-by k)
+      (keeps row words (λ l. controlOf l ≡ controlOf m) (λ l p v r e. control-kept l p v (omega (arith, r .from)) ∙ e) k m refl)
+
+  -- a cut fill leaves the row empty, so that nothing sees a part of it
+  pub half-filled : (k : ℕ) → k < 4 → isEmpty (rowAt (leaves k) row) ≡ true
+  unfolding rowAt
+  half-filled k h = rw (left-by k) (ap (λ (w : ℕ). eqb w 0) (waits row words m k h) ∙ c .empty)
+
+  -- a finished one leaves it with the four words
+  pub filled : (k : ℕ) → 4 ≤ k → rowAt (leaves k) row ≡ words
+  filled k h = rw (left-by k, after-enough row words k m h) (holds-words row words m room)
+
+  -- the image stays accepted
+  pub stays-accepted : (k : ℕ) → Accepts (leaves k) n
+  stays-accepted k =
+      record {
+        size = record {
+          words = rw (left-by k) (after-length k (fillStores row words) m ∙ c .image .size .words);
+          some = c .image .size .some;
+          few = c .image .size .few;
+        };
+        control-formed = rw (control-word-kept k) (c .image .control-formed);
+        rows-formed = λ j h. each j h (ℕ-discrete j row);
+      }
+    where
+      this : (k < 4) ⊎ (4 ≤ k) → rows.wellFormed (rowAt (leaves k) row) ≡ true
+      this (inl h) = empty-formed (rowAt (leaves k) row) (half-filled k h)
+      this (inr h) = rw (filled k h) (c .formed)
+
+      each : (j : ℕ) → j < n → Dec (j ≡ row) → rows.wellFormed (rowAt (leaves k) j) ≡ true
+      each j h (yes s) = rw s (this (less-or-not k 4))
+      each j h (no d) = rw (other-rows-kept k j d) (c .image .rows-formed j h)
+
+  -- a cut fill may be made again: nothing refuses it
+  pub still-carried : (k : ℕ) → k < 4 → Carried (leaves k) n row words
+  still-carried k h =
+      record { image = stays-accepted k; below = c .below; empty = half-filled k h; formed = c .formed; some = c .some }
+
+  -- a finished one repeated, with whatever words, is refused and stores nothing
+  pub finished-refuses : (k k′ : ℕ) (words′ : Row) → 4 ≤ k → fill (leaves k) row words′ k′ ≡ refused RowInUse (leaves k)
+  unfolding isUsed
+  finished-refuses k k′ words′ h =
+      fill-in-use (leaves k) row words′ k′ n (accepts (leaves k) n (stays-accepted k)) (c .below)
+      (ap (λ (r : Row). not (isEmpty r)) (filled k h) ∙ ap not (c .some))
+
+-- filling again with an allowance of four or more leaves, and answers, what an uncut fill does
+pub fill-again : (m : List ℕ) (n row : ℕ) (words : Row) → Carried m n row words → (k k′ : ℕ) → k < 4 → 4 ≤ k′
+    → fill (fill m row words k .memory) row words k′ ≡ fill m row words k′
+fill-again m n row words c k k′ h h′ =
+    carried (fill m row words k .memory) n row words (still-carried m n row words c k h) k′
+    ∙ ap (λ (l : List ℕ). record { answer = Done (report k′); memory = l }) same
+    ∙ sym (carried m n row words c k′)
+  where
+    same : afterStores k′ (fillStores row words) (fill m row words k .memory) ≡ afterStores k′ (fillStores row words) m
+    same =
+        rw (left-by m n row words c k)
+        (after-enough row words k′ (afterStores k (fillStores row words) m) h′ ∙ over-cut row words m k h
+        ∙ sym (after-enough row words k′ m h′))
+
+-- which way a fill goes: refused and nothing stored, or carried out
+pub data Goes (m : List ℕ) (row : ℕ) (words : Row) (k : ℕ) : Type 0 where
+  stops : (why : FillRefusal) → fill m row words k ≡ refused why m → Goes m row words k
+  stores : (n : ℕ) → Carried m n row words → Goes m row words k
+
+module _ (m : List ℕ) (row : ℕ) (words : Row) (k : ℕ) where
+  pub which-way : Goes m row words k
+  unfolding isUsed fit
+  which-way = by-check (check m) refl
+    where
+      by-fit : (n : ℕ) → check m ≡ Accepted n → row < n → isUsed m row ≡ false → (t : Bool) → fit words ≡ t → Goes m row words k
+      by-fit n e h u false t = stops Unfit (fill-unfit m row words k n e h u t)
+      by-fit n e h u true t =
+          let formed : rows.wellFormed words ≡ true = left (rows.wellFormed words) (not (isEmpty words)) t in
+          let some : isEmpty words ≡ false = not-true (isEmpty words) (right (rows.wellFormed words) (not (isEmpty words)) t) in
+          let empty : isEmpty (rowAt m row) ≡ true = not-false (isEmpty (rowAt m row)) u in
+          stores n (record { image = says m .accepted n e; below = h; empty = empty; formed = formed; some = some })
+
+      by-use : (n : ℕ) → check m ≡ Accepted n → row < n → (t : Bool) → isUsed m row ≡ t → Goes m row words k
+      by-use n e h true u = stops RowInUse (fill-in-use m row words k n e h u)
+      by-use n e h false u = by-fit n e h u (fit words) refl
+
+      by-check : (t : Checked) → check m ≡ t → Goes m row words k
+      by-check (Refused why) e = stops (Image why) (fill-image m row words k why e)
+      by-check (Accepted n) e =
+          ⊎-elim (λ h. by-use n e h (isUsed m row) refl) (λ h. stops NoSuchRow (fill-no-row m row words k n e h)) (less-or-not row n)
+
+  -- a refusal stores nothing
+  pub refused-leaves : (why : FillRefusal) → fill m row words k .answer ≡ NotFilled why → fill m row words k .memory ≡ m
+  refused-leaves why e = by-way which-way
+    where
+      by-way : Goes m row words k → fill m row words k .memory ≡ m
+      by-way (stops why′ g) = ap (λ (o : Outcome). o .memory) g
+      by-way (stores n c) =
+          let z : _≡_ {A = ℕ} 0 1 = cc (ap (λ (o : Outcome). o .answer) (carried m n row words c k)) in
+          absurd (omega arith)
+
+  -- an accepted image stays accepted, whatever is answered and wherever the power goes
+  pub accepted-at-every-allowance : (n : ℕ) → Accepts m n → Accepts (fill m row words k .memory) n
+  accepted-at-every-allowance n a = by-way which-way
+    where
+      by-way : Goes m row words k → Accepts (fill m row words k .memory) n
+      by-way (stops why g) = rw (ap (λ (o : Outcome). o .memory) g) a
+      by-way (stores n′ c) =
+          let same : n′ ≡ n = cc (accepts m n a, accepts m n′ (c .image)) in
+          rw (← same) (stays-accepted m n′ row words c k)
+
+-- the contract allows one outcome
+pub fill-pinned : {m m′ m″ : List ℕ} {row : ℕ} {words : Row} {k : ℕ} {r r′ : FillAnswer} → Fills m row words k m′ r → Fills m row words k m″ r′
+    → (r ≡ r′) × (m′ ≡ m″)
+fill-pinned a b = (a .answers ∙ sym (b .answers), a .leaves ∙ sym (b .leaves))

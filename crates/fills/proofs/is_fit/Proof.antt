@@ -1,0 +1,13 @@
+-- `fills::is_fit` meets its contract.
+-- Assumes nothing.
+use Rattle.fills.specs.Fills.{fit}
+use borrow.Author.Needs.{needs}
+use Rattle.fills.proofs.is_fit.Statement.{statement}
+use Rattle.fills.proofs.is_fit.Tie as tie
+
+returns : tie.Need-returns
+unfolding fit
+returns c = rw (c .before .well-formed .ensures)
+
+pub is-fit-spec : {M : Type 1} → statement M
+is-fit-spec = tie.close (tie.spec (λ c κs. search needs) returns)

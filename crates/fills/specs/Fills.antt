@@ -1,0 +1,84 @@
+-- Document 01, One run: filling a row. When the unit says no: refusals 7, 8 and 9.
+-- Assumes nothing.
+use mathlib.Core.Path.{_≡_}
+use mathlib.Core.Bool.{Bool, not, _&&_}
+use mathlib.Core.List.{List, [], _∷_}
+use Prim.Native.Nat.{ℕ, _+_, _*_}
+use lib.Dec.{leb, ltb}
+use lib.ListN.{getD}
+use Rattle.words.specs.Choice.{pick}
+use Rattle.words.specs.Stores.{Store, afterStores}
+use Rattle.rows.specs.declared.Row.{Row}
+use Rattle.rows.specs.Rows.{isEmpty}
+use Rattle.rows.specs.WellFormed as rows
+use Rattle.image.specs.declared.Checked.{Checked}
+use Rattle.image.specs.declared.Checked.the-variants.{Accepted, Refused}
+use Rattle.image.specs.Image as image
+use Rattle.fills.specs.declared.FillEnd.{FillEnd}
+use Rattle.fills.specs.declared.FillEnd.the-variants.{Filled, Cut}
+use Rattle.fills.specs.declared.Filling.{Filling}
+use Rattle.fills.specs.declared.FillRefusal.{FillRefusal}
+use Rattle.fills.specs.declared.FillRefusal.the-variants.{Image, NoSuchRow, RowInUse, Unfit}
+use Rattle.fills.specs.declared.FillAnswer.{FillAnswer}
+use Rattle.fills.specs.declared.FillAnswer.the-variants.{Refused as NotFilled, Done}
+
+-- the paper's number of each refusal, and of each end
+abbrev pub number : FillRefusal → ℕ
+number (Image why) = image.number why
+number NoSuchRow = 7
+number RowInUse = 8
+number Unfit = 9
+
+abbrev pub endNumber : FillEnd → ℕ
+endNumber Filled = 0
+endNumber Cut = 1
+
+-- the stores of a fill in their order: words 1, 2 and 3, and last word 0, which makes the row a used one
+abbrev pub fillStores : ℕ → Row → List Store
+fillStores row words =
+    record { at = 4 * row + 2; value = words .w1 }
+    ∷ record { at = 4 * row + 3; value = words .w2 }
+    ∷ record { at = 4 * row + 4; value = words .w3 }
+    ∷ record { at = 4 * row + 1; value = words .w0 }
+    ∷ []
+
+-- the one at a place of the list, counted from 0
+unfoldable pub storeAt : ℕ → Row → ℕ → Store
+storeAt row words place = getD (fillStores row words) place (record { at = 0; value = 0 })
+
+-- a row may be filled with these words
+unfoldable pub fit : Row → Bool
+fit words = rows.wellFormed words && not (isEmpty words)
+
+-- what is reported under an allowance of k: four stores, or cut after k
+unfoldable pub report : ℕ → Filling
+report k = pick (ltb k 4) (record { end = Cut; stores = k }) (record { end = Filled; stores = 4 })
+
+-- what a fill answers, and the memory that it leaves
+pub record Outcome : Type 0 where
+  pub answer : FillAnswer
+  pub memory : List ℕ
+
+abbrev pub refused : FillRefusal → List ℕ → Outcome
+refused why m = record { answer = NotFilled why; memory = m }
+
+-- into an image that was checked: its own refusal, or 7, 8 and 9 in their order, and then the stores
+abbrev pub fillChecked : Checked → List ℕ → ℕ → Row → ℕ → Outcome
+fillChecked (Refused why) m row words k = refused (Image why) m
+fillChecked (Accepted n) m row words k =
+    pick (leb n row) (refused NoSuchRow m)
+    (pick (image.isUsed m row) (refused RowInUse m)
+    (pick (not (fit words)) (refused Unfit m)
+    (record { answer = Done (report k); memory = afterStores k (fillStores row words) m })))
+
+unfoldable pub fill : List ℕ → ℕ → Row → ℕ → Outcome
+fill m row words k = fillChecked (image.check m) m row words k
+
+-- what the stores ensure, and what the call does, of the memory m before and m′ after and of the answer r
+pub record Stores (m : List ℕ) (row : ℕ) (words : Row) (k : ℕ) (m′ : List ℕ) (r : Filling) : Type 0 where
+  pub reports : r ≡ report k
+  pub leaves : m′ ≡ afterStores k (fillStores row words) m
+
+pub record Fills (m : List ℕ) (row : ℕ) (words : Row) (k : ℕ) (m′ : List ℕ) (r : FillAnswer) : Type 0 where
+  pub answers : r ≡ fill m row words k .answer
+  pub leaves : m′ ≡ fill m row words k .memory
