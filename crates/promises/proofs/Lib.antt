@@ -7,3 +7,4 @@ pub mod Potential
 pub mod Finding
 pub mod IllegalCommands
 pub mod LegalCommands
+pub mod RunCalls

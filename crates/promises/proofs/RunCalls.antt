@@ -1,0 +1,103 @@
+-- The call of a run: its outcome is pinned, it keeps memory accepted, and what repeating it does.
+-- Assumes nothing.
+use mathlib.Core.Path.{_≡_, refl, sym, ap, _∙_}
+use mathlib.Core.Bool.{Bool, true, false}
+use mathlib.Core.List.{List}
+use Prim.Native.Nat.{ℕ, zero, suc, _<_}
+use native.Mathlib.Omega.{arith}
+use lib.ListN.{length, set}
+use lib.Seq.{getD-set-same}
+use Rattle.control.specs.Control as control
+use Rattle.control.specs.Stores as control-stores
+use Rattle.control.specs.declared.Rest.{Rest}
+use Rattle.control.specs.declared.Rest.the-variants.{Off as Rest·Off, Held as Rest·Held, Empty as Rest·Empty}
+use Rattle.control.proofs.AfterStores.{raised-keeps, raised-active}
+use Rattle.control.proofs.Openness.{open-enabled, open-quiet}
+use Rattle.commands.specs.declared.Features.{Features}
+use Rattle.image.specs.declared.Checked.{Checked}
+use Rattle.image.specs.declared.Checked.the-variants.{Accepted, Refused as NotAccepted}
+use Rattle.image.specs.Image.{check, controlOf}
+use Rattle.image.proofs.Checks.{Accepts, accepts}
+use Rattle.runs.specs.declared.End.the-variants.{Held, Raised}
+use Rattle.runs.specs.declared.RunAnswer.{RunAnswer}
+use Rattle.runs.specs.Due.{What, Remove, Consume, Raise}
+use Rattle.runs.specs.Running.{Out, Next, rests, stores, rested, last, next, runBy, dueIn, run, endOf}
+use Rattle.runs.specs.Call.{queueGood, byCheck, call, Calls}
+use Rattle.promises.proofs.Accepted.{run-accepted, store-accepted}
+use Rattle.promises.proofs.Cases.{Case, removes, consumes, raises, is-due}
+use Rattle.promises.proofs.IllegalCommands.{error-holds}
+
+-- two outcomes that the contract allows for one input are equal
+module _ {f : Features} {queue : List ℕ} {k : ℕ} {m m₁ m₂ : List ℕ} {r₁ r₂ : RunAnswer} where
+  pub run-pinned : Calls f queue k m m₁ r₁ → Calls f queue k m m₂ r₂ → (r₁ ≡ r₂) × (m₁ ≡ m₂)
+  run-pinned a b = (a .answers ∙ sym (b .answers), a .leaves ∙ sym (b .leaves))
+
+-- an unaccepted image is left as it is
+pub refused-leaves : (f : Features) (queue : List ℕ) (k : ℕ) (m : List ℕ) (c : Checked) → check m ≡ c → ((n : ℕ) → c ≡ Accepted n → ⊥) → call f queue k m .memory ≡ m
+unfolding call
+refused-leaves f queue k m (NotAccepted why) e never = rw e
+refused-leaves f queue k m (Accepted n) e never = absurd (never n refl)
+
+module _ (f : Features) (queue : List ℕ) (n : ℕ) where
+  by-queue : (k : ℕ) (m : List ℕ) (b : Bool) → queueGood queue m ≡ b → Accepts m n → Accepts (byCheck (Accepted n) f queue k m .memory) n
+  by-queue k m true e a = rw e (run-accepted f queue n k m a)
+  by-queue k m false e a = rw e a
+
+  -- from accepted memory the call leaves accepted memory, at every allowance, refused or not
+  pub call-accepted : (k : ℕ) (m : List ℕ) → Accepts m n → Accepts (call f queue k m .memory) n
+  unfolding call
+  call-accepted k m a = rw (accepts m n a) (by-queue k m (queueGood queue m) refl a)
+
+  pub bad-queue-leaves : (k : ℕ) (m : List ℕ) → Accepts m n → queueGood queue m ≡ false → call f queue k m .memory ≡ m
+  unfolding call
+  bad-queue-leaves k m a e = rw (accepts m n a, e)
+
+-- a run that ended Raised: its last store was the error's
+module _ {M : Type 0} (f : M → Next M) (P : M → Type 0) (keep : (m m′ : M) (w : What) → P m → f m ≡ stores w m′ → P m′) where
+  pub record RaisedBy (m′ : M) : Type 0 where
+    pub before : M
+    pub held-before : P before
+    pub was-due : f before ≡ stores Raise m′
+
+  not-raised : (r : Rest) → endOf r ≡ Raised → ⊥
+  not-raised Rest·Off e = let z : _≡_ {A = ℕ} 0 1 = cc in omega arith
+  not-raised Rest·Held e = let z : _≡_ {A = ℕ} 0 1 = cc in omega arith
+  not-raised Rest·Empty e = let z : _≡_ {A = ℕ} 0 1 = cc in omega arith
+
+  by-last : (m : M) (d : Next M) → last d m .ran .end ≡ Raised → RaisedBy (last d m .memory)
+  by-last m (rests r) e = absurd (not-raised r e)
+  by-last m (stores w m′) e = let z : _≡_ {A = ℕ} 0 1 = cc in absurd (omega arith)
+
+  by-next : (k : ℕ) (m : M) (d : Next M) → f m ≡ d → P m → ((m′ : M) → P m′ → runBy f k m′ .ran .end ≡ Raised → RaisedBy (runBy f k m′ .memory))
+      → next (runBy f k) d m .ran .end ≡ Raised → RaisedBy (next (runBy f k) d m .memory)
+  by-next k m (rests r) same p ih e = absurd (not-raised r e)
+  by-next k m (stores Remove m′) same p ih e = ih m′ (keep m m′ Remove p same) e
+  by-next k m (stores (Consume y) m′) same p ih e = ih m′ (keep m m′ (Consume y) p same) e
+  by-next k m (stores Raise m′) same p ih e = record { before = m; held-before = p; was-due = same }
+
+  pub raised-by : (k : ℕ) (m : M) → P m → runBy f k m .ran .end ≡ Raised → RaisedBy (runBy f k m .memory)
+  unfolding runBy
+  raised-by zero m p e = by-last m (f m) e
+  raised-by (suc k) m p e = by-next k m (f m) refl p (λ m′ q c. raised-by k m′ q c) e
+
+module _ (f : Features) (queue : List ℕ) (n : ℕ) where
+  held-again : (m m′ : List ℕ) → Accepts m n → dueIn f queue m ≡ stores Raise m′ → (k : ℕ) → run f queue k m′ ≡ rested Held m′
+  held-again m m′ a e k = by-case (is-due f queue m Raise m′ e .kind)
+    where
+      w : ℕ
+      w = controlOf m
+
+      by-case : Case f queue m Raise m′ → run f queue k m′ ≡ rested Held m′
+      by-case (removes c i legal low what stored) = let z : _≡_ {A = ℕ} 0 1 = cc in absurd (omega arith)
+      by-case (consumes c legal nothing what stored) = let z : _≡_ {A = ℕ} 0 1 = cc in absurd (omega arith)
+      by-case (raises illegal what stored) =
+          let on = is-due f queue m Raise m′ e .open-for-it in
+          let word : controlOf m′ ≡ control-stores.raised w = ap controlOf stored ∙ getD-set-same m 0 (control-stores.raised w) 0 (omega (arith, a .size .words)) in
+          error-holds f queue m′ k (ap control.active word ∙ raised-active w (open-quiet w on))
+          (λ z. open-enabled w on (sym (raised-keeps w control.cmdqenBits tt tt) ∙ ap control.cmdqen (sym word) ∙ z))
+
+  -- repeating a run that ended Raised: Held, and no word changes
+  pub raised-then-held : (k j : ℕ) (m : List ℕ) → Accepts m n → run f queue k m .ran .end ≡ Raised → run f queue j (run f queue k m .memory) ≡ rested Held (run f queue k m .memory)
+  raised-then-held k j m a e =
+      let r = raised-by (dueIn f queue) (λ x. Accepts x n) (store-accepted f queue n) k m a e in
+      held-again (r .before) (run f queue k m .memory) (r .held-before) (r .was-due) j
