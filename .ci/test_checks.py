@@ -6,6 +6,7 @@ import tempfile
 sys.dont_write_bytecode = True
 import cited
 import refusals
+import writes
 
 FAILED = []
 
@@ -50,8 +51,20 @@ def logs():
         expect('another reason: ' + log[:60], refusals.reason(log) is not None)
 
 
+def stores():
+    step = 'fn step(kept: &mut [u64], i: usize)\n    ensures { λ r. ⌜ now (kept .exit) ≡ set (now (kept .entry)) i 0 ⌝ }\n{\n    kept[4 * i + 1] = 0;\n}\n'
+    expect('a step may store', writes.wrong('fills', step) == [])
+    expect('a step of another crate may not', len(writes.wrong('image', step)) == 1)
+    expect('a step may not store twice', len(writes.wrong('fills', step.replace('= 0;', '= 0;\n    kept[0] = 1;'))) == 1)
+    expect('a run may not store', len(writes.wrong('runs', step.replace('fn step', 'pub fn go'))) == 1)
+    expect('nor add to a word', len(writes.wrong('runs', step.replace('fn step', 'pub fn go').replace('] = 0', '] += 1'))) == 1)
+    expect('reading and comparing is free', writes.wrong('runs', 'fn go(kept: &mut [u64]) -> bool\n{\n    kept[0] == 1\n}\n') == [])
+    expect('a copy written back', len(writes.wrong('runs', 'fn go(kept: &mut [u64], copy: [u64; 5])\n{\n    kept[0] = copy[0];\n    kept[1] = copy[1];\n}\n')) == 1)
+
+
 citations()
 logs()
+stores()
 for what in FAILED:
     print('test_checks: ' + what)
 print('test_checks: %d wrong' % len(FAILED))
