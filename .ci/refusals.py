@@ -9,6 +9,7 @@ import sys
 
 OTHER_REASONS = [
     (r'has no `Need-', 'the proof file does not fit the edited code'),
+    (r'has no field', 'the proof file does not fit the edited code'),
     (r'expected type `tie\.Need-', 'the proof file does not fit the edited code'),
     (r'not in scope|unknown-name|cannot find', 'a name is missing'),
     (r'[Pp]arse|syntax|is neither', 'the edited file does not parse'),
