@@ -4,6 +4,7 @@ mod formed;
 
 pub use fields::attributes_of;
 pub use fields::covers;
+pub use fields::is_last;
 pub use fields::overrides_of;
 pub use fields::parts_of;
 pub use formed::well_formed;

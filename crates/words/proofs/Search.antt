@@ -105,6 +105,13 @@ passes-over p n (suc k) h f =
     passes-over p n k (omega arith) (λ j l. f j (omega arith)) ∙ later p n k (omega arith) (f k (omega arith))
     ∙ ap (λ (i : ℕ). lowest p (n - i) i) (add-one k)
 
+-- two tests that agree at the n numbers from i on find the same
+pub lowest-same : (p q : ℕ → Bool) (n i : ℕ) → ((j : ℕ) → i ≤ j → j < n + i → p j ≡ q j) → lowest p n i ≡ lowest q n i
+unfolding lowest
+lowest-same p q zero i f = refl
+lowest-same p q (suc n) i f =
+    rw (f i (omega arith) (omega arith), lowest-same p q n (suc i) (λ j a b. f j (omega arith) (omega arith)))
+
 -- a count goes on by one
 module _ (p : ℕ → Bool) (n : ℕ) where
   pub count-here : p n ≡ true → count p (n + 1) ≡ count p n + 1

@@ -1,0 +1,47 @@
+-- Document 01, A transaction: the row that answers a step.
+-- Assumes nothing.
+use Prim.Native.Nat.{ℕ}
+use mathlib.Core.Bool.{Bool, _&&_, _||_}
+use mathlib.Core.List.{List}
+use lib.Dec.{eqb}
+use Rattle.words.specs.Search.{lowest}
+use Rattle.words.specs.declared.Found.{Found}
+use Rattle.words.specs.declared.Found.the-variants.{At, Nothing}
+use Rattle.rows.specs.declared.Row.{Row}
+use Rattle.rows.specs.Rows as rows
+use Rattle.image.specs.Image.{rowsIn, rowAt}
+use Rattle.lookups.specs.declared.Wanted.{Wanted}
+use Rattle.lookups.specs.declared.Wanted.the-variants.{Ste, Cd, Stage1, Stage2}
+use Rattle.lookups.specs.declared.Looked.{Looked}
+use Rattle.lookups.specs.declared.Looked.the-variants.{Hit, NoRow}
+
+-- a row of the kind and the identifiers that a step wants; a stage 1 row has the ASID or is global, and a stage row covers the address
+unfoldable pub fits : Wanted → Row → Bool
+fits (Ste stream) row = eqb (rows.kind row) rows.ste && eqb (rows.stream row) stream
+fits (Cd stream substream) row =
+    eqb (rows.kind row) rows.cd && eqb (rows.stream row) stream && eqb (rows.substream row) substream
+fits (Stage1 vmid asid address) row =
+    eqb (rows.kind row) rows.stage1
+    && eqb (rows.vmid row) vmid
+    && (rows.isGlobal row || eqb (rows.asid row) asid)
+    && rows.covers row address
+fits (Stage2 vmid address) row =
+    eqb (rows.kind row) rows.stage2 && eqb (rows.vmid row) vmid && rows.covers row address
+
+-- only a last-level row answers
+unfoldable pub answers : Wanted → Row → Bool
+answers w row = rows.isLast row && fits w row
+
+unfoldable pub answersAt : List ℕ → Wanted → ℕ → Bool
+answersAt m w i = answers w (rowAt m i)
+
+-- the place of the lowest-numbered such row
+unfoldable pub find : List ℕ → Wanted → Found
+find m w = lowest (answersAt m w) (rowsIn m) 0
+
+abbrev pub rowFound : List ℕ → Found → Looked
+rowFound m (At i) = Hit (rowAt m i)
+rowFound m Nothing = NoRow
+
+unfoldable pub look : List ℕ → Wanted → Looked
+look m w = rowFound m (find m w)
