@@ -8,3 +8,4 @@ pub mod Finding
 pub mod IllegalCommands
 pub mod LegalCommands
 pub mod RunCalls
+pub mod Transactions

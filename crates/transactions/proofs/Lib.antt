@@ -1,2 +1,4 @@
 pub mod Needs
 pub mod Stages
+pub mod Outcomes
+pub mod Laws

@@ -1,6 +1,6 @@
--- What the steps ask of an accepted image.
+-- What the steps ask of an accepted image, and of an access on its way.
 -- Assumes nothing.
-use mathlib.Core.Path.{_≡_, sym, ap, _∙_}
+use mathlib.Core.Path.{_≡_, refl, sym, ap, _∙_}
 use mathlib.Core.Bool.{Bool, true, false, _&&_}
 use mathlib.Core.List.{List}
 use Prim.Native.Nat.{ℕ, _+_, _-_, _*_, _^_, _≤_, _<_}
@@ -10,7 +10,7 @@ use lib.ListN.{length}
 use Rattle.words.specs.Choice.{pick}
 use Rattle.words.proofs.Truth.{left, right}
 use Rattle.attributes.specs.declared.Attributes.{Attributes}
-use Rattle.attributes.specs.Formats.{memAttrFormed, shFormed, hintsFormed, wellFormed}
+use Rattle.attributes.specs.Formats.{nsh, osh, ish, memAttrFormed, shFormed, hintsFormed, wellFormed}
 use Rattle.attributes.specs.Overrides as overrides
 use Rattle.rows.specs.declared.Row.{Row}
 use Rattle.rows.specs.declared.Parts.{Parts}
@@ -18,12 +18,9 @@ use Rattle.rows.specs.Rows.{vmid, asid, config, newMemAttr, partsOf, overridesO
 use Rattle.image.specs.declared.Checked.the-variants.{Accepted}
 use Rattle.image.specs.Image.{rowsIn, check}
 use Rattle.image.proofs.Checks.{Accepts, rows-are, says}
-use Rattle.lookups.specs.declared.Wanted.the-variants.{Ste, Cd, Stage1, Stage2}
-use Rattle.lookups.specs.declared.Looked.the-variants.{Hit}
-use Rattle.lookups.specs.Lookups.{look}
-use Rattle.lookups.proofs.Accepted.{StageHit, ste-hit, stage1-hit, stage2-hit}
+use Rattle.lookups.proofs.Accepted.{StageHit}
 use Rattle.transactions.specs.declared.Transaction.{Transaction}
-use Rattle.transactions.specs.Steps.{Ready, Formed, Typed, Movable, overridden}
+use Rattle.transactions.specs.Steps.{Ready, Formed, Movable, overridden}
 
 -- the parts of a row, one by one
 module _ {p : Parts} (row : Row) (e : p ≡ partsOf row) where
@@ -43,32 +40,53 @@ module _ {p : Parts} (row : Row) (e : p ≡ partsOf row) where
 pub ready : (m : List ℕ) {n : ℕ} → check m ≡ Accepted n → Ready m
 ready m {n} e = e ∙ ap Accepted (sym (rows-are m n (says m .accepted n e .size)))
 
-module _ (m : List ℕ) (ready : Ready m) where
+module _ (m : List ℕ) (r : Ready m) where
   pub accepted : Accepts m (rowsIn m)
-  accepted = says m .accepted (rowsIn m) ready
+  accepted = says m .accepted (rowsIn m) r
 
   pub room : 4 * rowsIn m + 1 ≤ length m
   room = omega (arith, accepted .size .words)
 
--- a stage row that is hit moves the address and has a well-formed type
+-- a stage row that is hit can move the address
 pub movable : {row : Row} {a : ℕ} → StageHit row a → Movable row a
 movable h = record { from = h .from; room = omega (arith, h .moves) }
 
-mem-attr-of : (a : Attributes) → wellFormed a ≡ true → memAttrFormed (a .memattr) ≡ true
+-- attributes of a well-formed type and shareability, whatever their hints
+pub record Proper (a : Attributes) : Type 0 where
+  pub typed : memAttrFormed (a .memattr) ≡ true
+  pub shared : shFormed (a .sh) ≡ true
+
+pub formed-proper : (a : Attributes) → wellFormed a ≡ true → Proper a
 unfolding wellFormed
-mem-attr-of a f =
+formed-proper a f =
     let m = memAttrFormed (a .memattr) in
     let s = shFormed (a .sh) in
-    left m s (left (m && s) (hintsFormed (a .memattr) (a .hints)) f)
+    let both = left (m && s) (hintsFormed (a .memattr) (a .hints)) f in
+    record { typed = left m s both; shared = right m s both }
 
-pub typed : {row : Row} {a : ℕ} → StageHit row a → memAttrFormed (attributesOf row .memattr) ≡ true
-typed {row} h = mem-attr-of (attributesOf row) (h .formed)
+pub hit-proper : {row : Row} {a : ℕ} → StageHit row a → Proper (attributesOf row)
+hit-proper {row} h = formed-proper (attributesOf row) (h .formed)
 
--- the overrides leave a well-formed type
-either-formed : (b : Bool) (m n : ℕ) → memAttrFormed m ≡ true → memAttrFormed n ≡ true → memAttrFormed (pick b m n) ≡ true
-either-formed true m n f g = f
-either-formed false m n f g = g
+-- the overrides leave such attributes
+picked : (P : ℕ → Type 0) (b : Bool) (m n : ℕ) → P m → P n → P (pick b m n)
+picked P true m n f g = f
+picked P false m n f g = g
 
-pub overridden-typed : (ste : Row) (t : Transaction) → memAttrFormed (newMemAttr ste) ≡ true → Formed t → Typed (overridden ste t)
+override-shared : (shcfg s : ℕ) → shFormed s ≡ true → shFormed (overrides.overrideSh shcfg s) ≡ true
+unfolding overrides.overrideSh shFormed
+override-shared shcfg s f = by (eqb shcfg 0) (eqb shcfg 1) (eqb shcfg 2)
+  where
+    by : (a b c : Bool) → shFormed (pick a nsh (pick b s (pick c osh ish))) ≡ true
+    by true b c = refl
+    by false true c = f
+    by false false true = refl
+    by false false false = refl
+
+pub overridden-proper : (ste : Row) (t : Transaction) → memAttrFormed (newMemAttr ste) ≡ true → Formed t → Proper (overridden ste t .attributes)
 unfolding overridden overrides.overridden overridesOf
-overridden-typed ste t f g = either-formed (eqb (overridesOf ste .mtcfg) 1) (newMemAttr ste) (t .attributes .memattr) f (mem-attr-of (t .attributes) g)
+overridden-proper ste t f g =
+    let incoming = formed-proper (t .attributes) g in
+    record {
+      typed = picked (λ m. memAttrFormed m ≡ true) (eqb (overridesOf ste .mtcfg) 1) (newMemAttr ste) (t .attributes .memattr) f (incoming .typed);
+      shared = override-shared (overridesOf ste .shcfg) (t .attributes .sh) (incoming .shared);
+    }

@@ -7,18 +7,22 @@ use Prim.Native.Nat.{ℕ}
 use native.Mathlib.Omega.{arith}
 use Rattle.words.specs.Choice.{pick}
 use Rattle.rows.specs.declared.Row.{Row}
-use Rattle.rows.specs.Rows.{vmid, asid, config}
+use Rattle.combining.specs.Combining.{combined}
+use Rattle.combining.proofs.Numbers.{number-lt, mem-attr-formed, sh-formed}
+use Rattle.combining.proofs.Laws.{combine-lt}
+use Rattle.rows.specs.Rows.{vmid, asid, config, attributesOf}
+use Rattle.image.specs.Image.{rowsIn}
 use Rattle.lookups.specs.declared.Wanted.the-variants.{Cd, Stage1, Stage2}
 use Rattle.lookups.specs.declared.Looked.{Looked}
 use Rattle.lookups.specs.declared.Looked.the-variants.{Hit, NoRow}
 use Rattle.lookups.specs.Lookups.{look}
-use Rattle.lookups.proofs.Accepted.{stage1-hit}
+use Rattle.lookups.proofs.Accepted.{stage1-hit, stage2-hit}
 use Rattle.transactions.specs.declared.Transaction.{Transaction}
 use Rattle.transactions.specs.declared.Access.{Access}
 use Rattle.transactions.specs.declared.Staged.{Staged}
 use Rattle.transactions.specs.declared.Staged.the-variants.{Passed, Stopped}
-use Rattle.transactions.specs.Steps.{Ready, Typed, usesStage1, usesStage2, replaced, byStage1, byCd, stage1, joined, byStage2, stage2}
-use Rattle.transactions.proofs.Needs.{accepted, typed}
+use Rattle.transactions.specs.Steps.{Ready, usesStage1, usesStage2, replaced, byStage1, byCd, stage1, joined, byStage2, stage2}
+use Rattle.transactions.proofs.Needs.{accepted, Proper, hit-proper}
 
 
 pub data FromStage1 (m : List ℕ) (t : Transaction) (ste : Row) (x : Access) : Access → Type 0 where
@@ -65,7 +69,16 @@ module _ (m : List ℕ) (ste : Row) (x : Access) where
       by-use true u e = by-row2 a (look m (Stage2 (vmid ste) (x .address))) u refl e
       by-use false u e = let same : x ≡ a = cc in rw (← same) (past u)
 
--- stage 1 keeps the type well formed
-pub stage1-typed : (m : List ℕ) (t : Transaction) (ste : Row) (x a : Access) → Ready m → Typed x → FromStage1 m t ste x a → Typed a
-stage1-typed m t ste x a r f (past u) = f
-stage1-typed m t ste x a r f (through cd row u c h) = typed (stage1-hit m _ (accepted m r) row (vmid ste) (asid cd) (x .address) h)
+-- either stage leaves a well-formed type and shareability
+module _ (m : List ℕ) (r : Ready m) (ste : Row) (x : Access) where
+  pub stage1-proper : (t : Transaction) (a : Access) → Proper (x .attributes) → FromStage1 m t ste x a → Proper (a .attributes)
+  stage1-proper t a p (past u) = p
+  stage1-proper t a p (through cd row u c h) = hit-proper (stage1-hit m (rowsIn m) (accepted m r) row (vmid ste) (asid cd) (x .address) h)
+
+  pub stage2-proper : (a : Access) → Proper (x .attributes) → FromStage2 m ste x a → Proper (a .attributes)
+  unfolding combined
+  stage2-proper a p (past u) = p
+  stage2-proper a p (through row u h) =
+      let q = hit-proper (stage2-hit m (rowsIn m) (accepted m r) row (vmid ste) (x .address) h) in
+      let below = combine-lt _ _ (number-lt (x .attributes .memattr) (x .attributes .sh) (p .typed)) (number-lt (attributesOf row .memattr) (attributesOf row .sh) (q .typed)) in
+      record { typed = mem-attr-formed _ below; shared = sh-formed _ below }

@@ -10,7 +10,7 @@ use Rattle.lookups.specs.declared.Looked.the-variants.{Hit}
 use Rattle.lookups.specs.Lookups.{look}
 use Rattle.lookups.proofs.Accepted.{StageHit, stage2-hit}
 use Rattle.transactions.specs.Steps.{usesStage2, stage2}
-use Rattle.transactions.proofs.Needs.{config-of, vmid-of, accepted, room, movable, typed}
+use Rattle.transactions.proofs.Needs.{config-of, vmid-of, accepted, room, movable, hit-proper}
 use borrow.Author.Needs.{needs}
 use Rattle.transactions.proofs.steps.stage2.Statement.{statement}
 use Rattle.transactions.proofs.steps.stage2.Tie as tie
@@ -47,7 +47,7 @@ moved-requires : tie.Need-moved-requires
 moved-requires c κs = movable (hit (c .before .before))
 
 combined-requires : tie.Need-combined-requires
-combined-requires c κs = (c .before .before .before .before .before .before .before .before .before .before .pre .1, rw (c .before .attributes-of .ensures) (typed (hit (c .before .before .before))))
+combined-requires c κs = (c .before .before .before .before .before .before .before .before .before .before .pre .1, rw (c .before .attributes-of .ensures) (hit-proper (hit (c .before .before .before)) .typed))
 
 returns-3 : tie.Need-returns-3
 unfolding stage2

@@ -7,9 +7,9 @@ use Rattle.lookups.specs.declared.Wanted.the-variants.{Ste}
 use Rattle.lookups.specs.declared.Looked.the-variants.{Hit}
 use Rattle.lookups.specs.Lookups.{look}
 use Rattle.lookups.proofs.Accepted.{ste-hit}
-use Rattle.transactions.specs.Steps.{Typed, overridden, stage1, stage2, onward, finished, translation}
-use Rattle.transactions.proofs.Needs.{config-of, accepted, room, overridden-typed}
-use Rattle.transactions.proofs.Stages.{from-stage1, stage1-typed}
+use Rattle.transactions.specs.Steps.{overridden, stage1, stage2, onward, finished, translation}
+use Rattle.transactions.proofs.Needs.{config-of, accepted, room, overridden-proper}
+use Rattle.transactions.proofs.Stages.{from-stage1, stage1-proper}
 use borrow.Author.Needs.{needs}
 use Rattle.transactions.proofs.steps.translated.Statement.{statement}
 use Rattle.transactions.proofs.steps.translated.Tie as tie
@@ -57,8 +57,8 @@ stage2-requires c κs =
     let t = c .before .before .before .before .before .before .before .before .before .before .before .before .before .args .t in
     let row = c .before .before .before .before .before .before .before .before .before .ste .given .0 .0 in
     let ready = c .before .before .before .before .before .before .before .before .before .before .before .before .before .pre .0 in
-    let first = overridden-typed row t (ste-hit m _ (accepted m ready) row _ (ste (c .before .before .before .before .before .before .before .before .before))) (c .before .before .before .before .before .before .before .before .before .before .before .before .before .pre .1) in
-    (ready, stage1-typed m t row (overridden row t) _ ready first (from-stage1 m t row (overridden row t) _ (staged (c .before .before .before) ∙ c .before .a .given .1)))
+    let first = overridden-proper row t (ste-hit m _ (accepted m ready) row _ (ste (c .before .before .before .before .before .before .before .before .before))) (c .before .before .before .before .before .before .before .before .before .before .before .before .before .pre .1) in
+    (ready, stage1-proper m ready row (overridden row t) t _ first (from-stage1 m t row (overridden row t) _ (staged (c .before .before .before) ∙ c .before .a .given .1)) .typed)
 
 returns-3 : tie.Need-returns-3
 returns-3 c = sym (goes-on (c .before .before .before .before .before) ∙ rw (staged (c .before .before .before) ∙ c .before .miss .given .1))
