@@ -32,7 +32,10 @@ fn fits(w: Wanted, row: Row) -> bool
             (p.kind == 1) & (p.stream == stream) & (p.substream == substream)
         }
         Wanted::Stage1(vmid, asid, address) => {
-            (p.kind == 2) & (p.vmid == vmid) & (p.global | (p.asid == asid)) & rows::covers(row, address)
+            (p.kind == 2)
+                & (p.vmid == vmid)
+                & (p.global | (p.asid == asid))
+                & rows::covers(row, address)
         }
         Wanted::Stage2(vmid, address) => {
             (p.kind == 3) & (p.vmid == vmid) & rows::covers(row, address)

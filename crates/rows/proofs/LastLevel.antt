@@ -42,7 +42,6 @@ module _ (row : Row) where
       unfolding good
       stage-good = rw (s, c) at last-good
 
-
       pub span-few : span row ≤ 48
       unfolding stageGood
       span-few =

@@ -24,7 +24,6 @@ use Rattle.transactions.specs.declared.Staged.the-variants.{Passed, Stop
 use Rattle.transactions.specs.Steps.{Ready, usesStage1, usesStage2, replaced, byStage1, byCd, stage1, joined, byStage2, stage2}
 use Rattle.transactions.proofs.Needs.{accepted, Proper, hit-proper}
 
-
 pub data FromStage1 (m : List ℕ) (t : Transaction) (ste : Row) (x : Access) : Access → Type 0 where
   past : usesStage1 (config ste) ≡ false → FromStage1 m t ste x x
   through : (cd row : Row) → usesStage1 (config ste) ≡ true → look m (Cd (t .stream) (t .substream)) ≡ Hit cd
