@@ -1,0 +1,179 @@
+-- Packing and unpacking undo each other: fields that fit come back whole, and so does a word with nothing above LOG2SIZE.
+-- Assumes nothing.
+use mathlib.Core.Path.{_≡_, refl, sym, ap, _∙_}
+use mathlib.Core.Bool.{Bool, true, _&&_}
+use Prim.Native.Nat.{ℕ, _+_, _-_, _/_, _%_, _^_, _≤_, _<_}
+use native.Mathlib.Nat.{mod-lt, mod-eq-of-lt, mod-one, div-eq-of-lt, lt-of-lt-of-le, zero-mul, zero-add}
+use native.Mathlib.Omega.{arith}
+use lib.Dec.{T, lit<}
+use lib.Pow.{pow-pos, pow-mono, mod-pow-add}
+use borrow.Author.Tests.{ltb-true, lt-ltb}
+use Rattle.words.specs.Parts.{part, put}
+use Rattle.words.specs.Ranges.{Range, get, set}
+use Rattle.words.proofs.Parts.{apart, keeps, reads-back, put-lt}
+use Rattle.words.proofs.Truth.{left, right, and-true}
+use Rattle.control.specs.declared.Fields.{Fields}
+use Rattle.control.specs.Control.{rdBits, wrBits, errBits, gerrorBits, gerrornBits, cmdqenBits, log2sizeBits, zeroBits, fieldsOf}
+use Rattle.registers.specs.Registers.{packed, fitsIn, fits}
+
+-- what fitting says, field by field
+pub record Fit (f : Fields) : Type 0 where
+  pub rd : f .rd < 2 ^ 20
+  pub wr : f .wr < 2 ^ 20
+  pub err : f .err < 2 ^ 7
+  pub gerror : f .gerror < 2
+  pub gerrorn : f .gerrorn < 2
+  pub cmdqen : f .cmdqen < 2
+  pub log2size : f .log2size < 2 ^ 5
+
+module _ (f : Fields) where
+  abbrev a : Bool
+  a = fitsIn rdBits (f .rd)
+
+  abbrev b : Bool
+  b = a && fitsIn wrBits (f .wr)
+
+  abbrev c : Bool
+  c = b && fitsIn errBits (f .err)
+
+  abbrev d : Bool
+  d = c && fitsIn gerrorBits (f .gerror)
+
+  abbrev e : Bool
+  e = d && fitsIn gerrornBits (f .gerrorn)
+
+  abbrev g : Bool
+  g = e && fitsIn cmdqenBits (f .cmdqen)
+
+  pub fit : fits f ≡ true → Fit f
+  unfolding fits
+  fit p =
+      let pg = left g (fitsIn log2sizeBits (f .log2size)) p in
+      let pe = left e (fitsIn cmdqenBits (f .cmdqen)) pg in
+      let pd = left d (fitsIn gerrornBits (f .gerrorn)) pe in
+      let pc = left c (fitsIn gerrorBits (f .gerror)) pd in
+      let pb = left b (fitsIn errBits (f .err)) pc in
+      record {
+        rd = ltb-true (f .rd) (2 ^ 20) (left a (fitsIn wrBits (f .wr)) pb);
+        wr = ltb-true (f .wr) (2 ^ 20) (right a (fitsIn wrBits (f .wr)) pb);
+        err = ltb-true (f .err) (2 ^ 7) (right b (fitsIn errBits (f .err)) pc);
+        gerror = ltb-true (f .gerror) 2 (right c (fitsIn gerrorBits (f .gerror)) pd);
+        gerrorn = ltb-true (f .gerrorn) 2 (right d (fitsIn gerrornBits (f .gerrorn)) pe);
+        cmdqen = ltb-true (f .cmdqen) 2 (right e (fitsIn cmdqenBits (f .cmdqen)) pg);
+        log2size = ltb-true (f .log2size) (2 ^ 5) (right g (fitsIn log2sizeBits (f .log2size)) p);
+      }
+
+  pub is-fit : Fit f → fits f ≡ true
+  unfolding fits
+  is-fit h =
+      and-true
+      (and-true
+      (and-true
+      (and-true
+      (and-true
+      (and-true (lt-ltb (f .rd) (2 ^ 20) (h .rd)) (lt-ltb (f .wr) (2 ^ 20) (h .wr)))
+      (lt-ltb (f .err) (2 ^ 7) (h .err)))
+      (lt-ltb (f .gerror) 2 (h .gerror)))
+      (lt-ltb (f .gerrorn) 2 (h .gerrorn)))
+      (lt-ltb (f .cmdqen) 2 (h .cmdqen)))
+      (lt-ltb (f .log2size) (2 ^ 5) (h .log2size))
+
+  -- the word as it grows, part by part
+  abbrev w₁ : ℕ
+  w₁ = set rdBits (f .rd) 0
+
+  abbrev w₂ : ℕ
+  w₂ = set wrBits (f .wr) w₁
+
+  abbrev w₃ : ℕ
+  w₃ = set errBits (f .err) w₂
+
+  abbrev w₄ : ℕ
+  w₄ = set gerrorBits (f .gerror) w₃
+
+  abbrev w₅ : ℕ
+  w₅ = set gerrornBits (f .gerrorn) w₄
+
+  abbrev w₆ : ℕ
+  w₆ = set cmdqenBits (f .cmdqen) w₅
+
+  -- a range apart from the parts that come later is as they found it
+  after₆ : (r : Range) → T (apart log2sizeBits r) → get r (packed f) ≡ get r w₆
+  unfolding packed
+  after₆ r t = keeps log2sizeBits (f .log2size) w₆ r t
+
+  after₅ : (r : Range) → T (apart log2sizeBits r) → T (apart cmdqenBits r) → get r (packed f) ≡ get r w₅
+  after₅ r t u = after₆ r t ∙ keeps cmdqenBits (f .cmdqen) w₅ r u
+
+  after₄ : (r : Range) → T (apart log2sizeBits r) → T (apart cmdqenBits r) → T (apart gerrornBits r) → get r (packed f) ≡ get r w₄
+  after₄ r t u v = after₅ r t u ∙ keeps gerrornBits (f .gerrorn) w₄ r v
+
+  after₃ : (r : Range) → T (apart log2sizeBits r) → T (apart cmdqenBits r) → T (apart gerrornBits r) → T (apart gerrorBits r) → get r (packed f) ≡ get r w₃
+  after₃ r t u v x = after₄ r t u v ∙ keeps gerrorBits (f .gerror) w₃ r x
+
+  after₂ : (r : Range) → T (apart log2sizeBits r) → T (apart cmdqenBits r) → T (apart gerrornBits r) → T (apart gerrorBits r) → T (apart errBits r) → get r (packed f) ≡ get r w₂
+  after₂ r t u v x y = after₃ r t u v x ∙ keeps errBits (f .err) w₂ r y
+
+  -- nothing stands above LOG2SIZE
+  pub packed-zero : get zeroBits (packed f) ≡ 0
+  unfolding part
+  packed-zero = after₂ zeroBits tt tt tt tt tt ∙ keeps wrBits (f .wr) w₁ zeroBits tt ∙ keeps rdBits (f .rd) 0 zeroBits tt ∙ refl
+
+  pub packed-lt : packed f < 2 ^ 64
+  unfolding packed
+  packed-lt =
+      put-lt 54 50 (omega arith) (f .log2size) w₆
+      (put-lt 49 49 (omega arith) (f .cmdqen) w₅
+      (put-lt 48 48 (omega arith) (f .gerrorn) w₄
+      (put-lt 47 47 (omega arith) (f .gerror) w₃
+      (put-lt 46 40 (omega arith) (f .err) w₂
+      (put-lt 39 20 (omega arith) (f .wr) w₁
+      (put-lt 19 0 (omega arith) (f .rd) 0 (lit< tt) (omega arith))
+      (omega arith))
+      (omega arith))
+      (omega arith))
+      (omega arith))
+      (omega arith))
+      (omega arith)
+
+  -- fields that fit come back
+  pub unpacked : fits f ≡ true → fieldsOf (packed f) ≡ f
+  unfolding fieldsOf packed
+  unpacked p =
+      let h = fit p in
+      rw (
+        after₂ rdBits tt tt tt tt tt ∙ keeps wrBits (f .wr) w₁ rdBits tt ∙ reads-back 19 0 (f .rd) 0 (omega arith) (h .rd),
+        after₂ wrBits tt tt tt tt tt ∙ reads-back 39 20 (f .wr) w₁ (omega arith) (h .wr),
+        after₃ errBits tt tt tt tt ∙ reads-back 46 40 (f .err) w₂ (omega arith) (h .err),
+        after₄ gerrorBits tt tt tt ∙ reads-back 47 47 (f .gerror) w₃ (omega arith) (h .gerror),
+        after₅ gerrornBits tt tt ∙ reads-back 48 48 (f .gerrorn) w₄ (omega arith) (h .gerrorn),
+        after₆ cmdqenBits tt ∙ reads-back 49 49 (f .cmdqen) w₅ (omega arith) (h .cmdqen),
+        reads-back 54 50 (f .log2size) w₆ (omega arith) (h .log2size),
+      )
+
+-- a part put on top of all that stands below it
+grows : (h l w : ℕ) → l ≤ h → put h l (part h l w) (w % 2 ^ l) ≡ w % 2 ^ (h + 1)
+unfolding put part
+grows h l w ordered =
+    let width : (h + 1 - l) + l ≡ h + 1 = omega arith in
+    let small : w % 2 ^ l < 2 ^ l = mod-lt w (pow-pos l) in
+    let under : w % 2 ^ l < 2 ^ (h + 1) = lt-of-lt-of-le small (pow-mono {j = h + 1} (omega arith)) in
+    rw (div-eq-of-lt under, mod-eq-of-lt small, mod-eq-of-lt (mod-lt (w / 2 ^ l) (pow-pos (h + 1 - l))), zero-mul, zero-add)
+    (sym (mod-pow-add w (h + 1 - l) l) ∙ ap (λ (n : ℕ). w % 2 ^ n) width)
+
+module _ (w : ℕ) where
+  -- the fields of a word make what it has below bit 55
+  repacked : packed (fieldsOf w) ≡ w % 2 ^ 55
+  unfolding packed fieldsOf
+  repacked =
+      let first : set rdBits (get rdBits w) 0 ≡ w % 2 ^ 20 = ap (set rdBits (get rdBits w)) (sym (mod-one w)) ∙ grows 19 0 w (omega arith) in
+      rw (first, grows 39 20 w (omega arith), grows 46 40 w (omega arith), grows 47 47 w (omega arith), grows 48 48 w (omega arith), grows 49 49 w (omega arith), grows 54 50 w (omega arith))
+
+  -- a word with nothing there comes back
+  pub packed-again : w < 2 ^ 55 → packed (fieldsOf w) ≡ w
+  packed-again small = repacked ∙ mod-eq-of-lt small
+
+  -- as a machine word with the zero part 0 has
+  pub below : w < 2 ^ 64 → get zeroBits w ≡ 0 → w < 2 ^ 55
+  unfolding part
+  below fits zeroes = omega (arith, zeroes)

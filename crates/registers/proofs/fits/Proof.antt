@@ -1,0 +1,13 @@
+-- `registers::fits` meets its contract.
+-- Assumes nothing.
+use mathlib.Core.Path.{refl}
+use Rattle.registers.specs.Registers.{fits}
+use Rattle.registers.proofs.fits.Statement.{statement}
+use Rattle.registers.proofs.fits.Tie as tie
+
+returns : tie.Need-returns
+unfolding fits
+returns c = refl
+
+pub fits-spec : {M : Type 1} → statement M
+fits-spec = tie.close (tie.spec returns)

@@ -1,0 +1,45 @@
+-- Document 01, What goes between host and unit: the state of an image.
+-- Assumes nothing.
+use Prim.Native.Nat.{ℕ, zero, suc, _*_, _/_, _%_}
+use mathlib.Core.Bool.{not}
+use mathlib.Core.List.{List, [], _∷_, _++_}
+use lib.Dec.{eqb}
+use lib.ListN.{length}
+use Rattle.words.specs.Choice.{pick}
+use Rattle.words.specs.Bytes.{wordAt}
+use Rattle.control.specs.Control as control
+use Rattle.image.specs.declared.Refusal.the-variants.{BadLength}
+use Rattle.image.specs.declared.Checked.{Checked}
+use Rattle.image.specs.declared.Checked.the-variants.{Accepted, Refused as NotAccepted}
+use Rattle.image.specs.Image.{controlOf, check, usedRows}
+use Rattle.states.specs.declared.State.{State}
+use Rattle.states.specs.declared.StateAnswer.{StateAnswer}
+use Rattle.states.specs.declared.StateAnswer.the-variants.{Refused, Is}
+
+-- of a control word and so many used rows
+unfoldable pub told : ℕ → ℕ → State
+told w used =
+    record {
+      rd = control.rd w;
+      wr = control.wr w;
+      err = control.err w;
+      active = control.active w;
+      enabled = not (eqb (control.cmdqen w) 0);
+      used = used;
+    }
+
+abbrev pub byCheck : Checked → List ℕ → StateAnswer
+byCheck (NotAccepted why) m = Refused why
+byCheck (Accepted n) m = Is (told (controlOf m) (usedRows m n))
+
+unfoldable pub stateOf : List ℕ → StateAnswer
+stateOf m = byCheck (check m) m
+
+-- the first n words of some bytes
+unfoldable pub wordsIn : List ℕ → ℕ → List ℕ
+wordsIn bytes zero = []
+wordsIn bytes (suc n) = wordsIn bytes n ++ wordAt bytes (8 * n) ∷ []
+
+-- of an image given as bytes: a broken last word is refusal 1
+unfoldable pub stateIn : List ℕ → StateAnswer
+stateIn bytes = pick (eqb (length bytes % 8) 0) (stateOf (wordsIn bytes (length bytes / 8))) (Refused BadLength)
