@@ -1,0 +1,106 @@
+// The C interface. Each call carries out one of the unit's, and tells its outcome by numbers: it returns 0 or the refusal's
+// number, and fills the eight words of the answer. include/tahvenno.h says what each word is.
+use attributes::Attributes;
+use replies::Reply;
+use rows::Row;
+ghost use Rattle.replies.specs.Asked.{transactionOf};
+ghost use Rattle.host.specs.Told.{Told, Leaves};
+ghost use Rattle.host.specs.Calls.{run, fill, doorbell, acknowledge, enable, translate, state};
+
+// Puts a reply's words into the answer, and hands back its number.
+fn tell(answer: &mut [u64; 8], reply: Reply) -> u64
+    ensures { λ r. ⌜ Told reply (now (answer .exit)) r ⌝ }
+{
+    let words = reply.words;
+    *answer = words;
+    reply.code
+}
+
+#[no_mangle]
+pub extern "C" fn tahvenno_run(
+    kept: &mut [u64],
+    queue: &[u8],
+    features: u64,
+    allowance: u64,
+    answer: &mut [u64; 8],
+) -> u64
+    ensures { λ r. ⌜ Leaves (run features allowance (now (queue .entry)) (now (kept .entry))) (now (kept .exit)) (now (answer .exit)) r ⌝ }
+{
+    let a = runs::run(&mut *kept, queue, replies::features_of(features), allowance);
+    tell(&mut *answer, replies::run_reply(a))
+}
+
+#[no_mangle]
+pub extern "C" fn tahvenno_fill(
+    kept: &mut [u64],
+    row: u64,
+    w0: u64,
+    w1: u64,
+    w2: u64,
+    w3: u64,
+    allowance: u64,
+    answer: &mut [u64; 8],
+) -> u64
+    ensures { λ r. ⌜ Leaves (fill row (record { w0 = w0; w1 = w1; w2 = w2; w3 = w3 }) allowance (now (kept .entry))) (now (kept .exit)) (now (answer .exit)) r ⌝ }
+{
+    let a = fills::fill(&mut *kept, row as usize, Row { w0, w1, w2, w3 }, allowance);
+    tell(&mut *answer, replies::fill_reply(a))
+}
+
+#[no_mangle]
+pub extern "C" fn tahvenno_doorbell(kept: &mut [u64], wr: u64, answer: &mut [u64; 8]) -> u64
+    ensures { λ r. ⌜ Leaves (doorbell wr (now (kept .entry))) (now (kept .exit)) (now (answer .exit)) r ⌝ }
+{
+    let a = control_calls::doorbell(&mut *kept, wr);
+    tell(&mut *answer, replies::doorbell_reply(a))
+}
+
+#[no_mangle]
+pub extern "C" fn tahvenno_acknowledge(kept: &mut [u64], answer: &mut [u64; 8]) -> u64
+    ensures { λ r. ⌜ Leaves (acknowledge (now (kept .entry))) (now (kept .exit)) (now (answer .exit)) r ⌝ }
+{
+    let a = control_calls::acknowledge(&mut *kept);
+    tell(&mut *answer, replies::acknowledge_reply(a))
+}
+
+#[no_mangle]
+pub extern "C" fn tahvenno_enable(kept: &mut [u64], on: u64, answer: &mut [u64; 8]) -> u64
+    ensures { λ r. ⌜ Leaves (enable on (now (kept .entry))) (now (kept .exit)) (now (answer .exit)) r ⌝ }
+{
+    let a = control_calls::enable(&mut *kept, !(on == 0));
+    tell(&mut *answer, replies::enable_reply(a))
+}
+
+#[no_mangle]
+pub extern "C" fn tahvenno_translate(
+    kept: &[u64],
+    stream: u32,
+    substream: u32,
+    address: u64,
+    how: u64,
+    memattr: u64,
+    sh: u64,
+    hints: u64,
+    answer: &mut [u64; 8],
+) -> u64
+    ensures { λ r. ⌜ Told (translate (transactionOf stream substream address how (record { memattr = memattr; sh = sh; hints = hints })) (now (kept .entry))) (now (answer .exit)) r ⌝ }
+{
+    let t = replies::transaction_of(
+        stream,
+        substream,
+        address,
+        how,
+        Attributes { memattr, sh, hints },
+    );
+    tell(
+        &mut *answer,
+        replies::translate_reply(transactions::translate(kept, t)),
+    )
+}
+
+#[no_mangle]
+pub extern "C" fn tahvenno_state(kept: &[u64], answer: &mut [u64; 8]) -> u64
+    ensures { λ r. ⌜ Told (state (now (kept .entry))) (now (answer .exit)) r ⌝ }
+{
+    tell(&mut *answer, replies::state_reply(states::state_of(kept)))
+}

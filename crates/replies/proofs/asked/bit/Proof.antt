@@ -1,0 +1,11 @@
+-- `replies::asked::bit` meets its contract.
+-- Assumes nothing.
+use borrow.Author.Needs.{needs}
+use Rattle.replies.proofs.asked.bit.Statement.{statement}
+use Rattle.replies.proofs.asked.bit.Tie as tie
+
+returns : tie.Need-returns
+returns c = rw (c .part .ensures)
+
+pub bit-spec : {M : Type 1} → statement M
+bit-spec = tie.close (tie.spec (λ c κs. search needs) returns)

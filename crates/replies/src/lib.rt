@@ -1,0 +1,19 @@
+// Between the unit's types and C's words: what a C caller asks, and what it is told.
+mod answers;
+mod asked;
+
+pub use answers::acknowledge_reply;
+pub use answers::doorbell_reply;
+pub use answers::enable_reply;
+pub use answers::fill_reply;
+pub use answers::run_reply;
+pub use answers::state_reply;
+pub use answers::translate_reply;
+pub use asked::features_of;
+pub use asked::transaction_of;
+
+// The number that a call returns, 0 or its refusal's, and the eight words of its answer.
+pub struct Reply {
+    pub code: u64,
+    pub words: [u64; 8],
+}
