@@ -15,6 +15,8 @@ ALLOWED = {
     ('control_calls', 'doorbell'): 1,
     ('control_calls', 'acknowledge'): 1,
     ('control_calls', 'enable'): 1,
+    # an array of its caller's, filled from a program's input
+    ('states', 'gather'): 1,
 }
 
 

@@ -1,0 +1,126 @@
+//! Makes each call on both sides and stops the program at the first difference.
+
+use crate::call::{Call, Reply};
+use crate::generate::random::Random;
+use crate::laws;
+use crate::lent::Lent;
+use crate::report::{stop, Scene};
+use crate::tally::Tally;
+use crate::unit;
+use crate::watchdog;
+
+pub struct Checker {
+    seed: u64,
+    phase: &'static str,
+    garbage: Random,
+    pub tally: Tally,
+}
+
+impl Checker {
+    pub fn new(seed: u64) -> Checker {
+        Checker {
+            seed,
+            phase: "",
+            garbage: Random::new(!seed),
+            tally: Tally::default(),
+        }
+    }
+
+    /// Starts a phase. Its numbers hang on seed and name alone, so that a change
+    /// to one phase leaves the others as they were.
+    pub fn phase(&mut self, name: &'static str) -> Random {
+        println!("{name} ...");
+        self.phase = name;
+        let mark = name
+            .bytes()
+            .fold(0u64, |sum, byte| sum.rotate_left(7) ^ u64::from(byte));
+        Random::new(self.seed ^ mark)
+    }
+
+    /// One call on unit and model, each with its own copy; `kept` then holds
+    /// what both left there.
+    pub fn call(&mut self, kept: &mut [u64], call: Call) -> Reply {
+        let before = kept.to_vec();
+        let mut lent = Lent::new(kept, &mut self.garbage);
+        let dirt: [u64; 8] = std::array::from_fn(|_| self.garbage.next());
+        let mut answer = Lent::new(&dirt, &mut self.garbage);
+        let (number, queue_kept) = on_unit(call, &mut lent, &mut answer);
+        watchdog::returned();
+        let theirs = Reply {
+            number,
+            answer: std::array::from_fn(|place| answer.inner()[place]),
+        };
+        let ours = call.on_model(kept, &mut self.tally);
+
+        let scene = self.scene(&before, call, (theirs, lent.inner()), (ours, kept));
+        if theirs != ours || lent.inner() != kept {
+            stop(&scene, "unit and model differ");
+        }
+        if !queue_kept || !lent.margins_kept() || !answer.margins_kept() {
+            stop(&scene, "the unit stored outside the words lent for storing");
+        }
+        if let Some(law) = laws::broken(&before, call, ours, kept) {
+            stop(&scene, law);
+        }
+        ours
+    }
+
+    /// Stops the program unless a law over several calls holds; `call` is one of
+    /// them, and `side` what both sides made of it.
+    pub fn insist(
+        &self,
+        holds: bool,
+        law: &str,
+        before: &[u64],
+        call: Call,
+        side: (Reply, &[u64]),
+    ) {
+        if !holds {
+            stop(&self.scene(before, call, side, side), law);
+        }
+    }
+
+    fn scene<'a>(
+        &self,
+        before: &'a [u64],
+        call: Call<'a>,
+        unit: (Reply, &'a [u64]),
+        model: (Reply, &'a [u64]),
+    ) -> Scene<'a> {
+        let (seed, phase, serial) = (self.seed, self.phase, self.tally.compared);
+        Scene {
+            seed,
+            phase,
+            serial,
+            before,
+            call,
+            unit,
+            model,
+        }
+    }
+}
+
+/// The unit's number, and whether it left the queue alone. A run is lent a copy
+/// of the queue, for the model has to read it as it was.
+fn on_unit(call: Call, kept: &mut Lent, answer: &mut Lent) -> (u64, bool) {
+    match call {
+        Call::Run {
+            queue,
+            features,
+            allowance,
+        } => {
+            let copy = queue.to_vec();
+            let number = unit::perform(
+                Call::Run {
+                    queue: &copy,
+                    features,
+                    allowance,
+                },
+                kept,
+                answer,
+            );
+            (number, copy == queue)
+        }
+        _ => (unit::perform(call, kept, answer), true),
+    }
+}

@@ -1,0 +1,9 @@
+//! Inputs that collide often: small pools, and rows and commands drawn from them.
+
+pub mod commands;
+pub mod damage;
+pub mod images;
+pub mod random;
+pub mod rows;
+pub mod transactions;
+pub mod world;

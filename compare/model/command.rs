@@ -1,0 +1,161 @@
+//! Commands: which are legal, and what a legal one does (document 01, Commands
+//! and their scopes).
+
+use super::scope::{Page, Scope};
+use super::words::{bit, part};
+
+/// What the host says that the emulated unit can do.
+#[derive(Clone, Copy, Debug, PartialEq, Eq)]
+pub struct Features {
+    pub s1p: bool,
+    pub s2p: bool,
+    pub asid16: bool,
+    pub vmid16: bool,
+}
+
+impl Features {
+    /// From the low four bits of the C interface's number.
+    pub fn from_bits(bits: u64) -> Features {
+        Features {
+            s1p: bit(bits, 0),
+            s2p: bit(bits, 1),
+            asid16: bit(bits, 2),
+            vmid16: bit(bits, 3),
+        }
+    }
+}
+
+/// What consuming a legal command does, apart from moving RD.
+#[derive(Clone, Copy, Debug, PartialEq, Eq)]
+pub enum Effect {
+    Nothing,
+    /// An ASID or VMID wider than the features allow: legal, removes nothing.
+    TooWide,
+    /// CMD_SYNC with CS 1, the one that is counted.
+    Signal,
+    Remove(Scope),
+}
+
+/// Highest and lowest bit, counted over the whole 128-bit command.
+type Bits = (u32, u32);
+const STREAM: Bits = (63, 32);
+const LEAF: Bits = (64, 64);
+const VMID: Bits = (47, 32);
+const ASID: Bits = (63, 48);
+
+/// The parts named for a code beside the code itself; None for other codes.
+/// Bits that aren't looked at are named too: they make nothing illegal.
+fn named(code: u64) -> Option<&'static [Bits]> {
+    Some(match code {
+        0x01 | 0x02 => &[(9, 8), (127, 11)],
+        0x03 => &[STREAM, LEAF],
+        0x04 => &[STREAM, (68, 64)],
+        0x05 => &[(31, 12), STREAM, LEAF],
+        0x06 => &[STREAM],
+        0x10 | 0x28 => &[VMID],
+        0x11 => &[VMID, ASID],
+        0x12 => &[VMID, ASID, LEAF, (127, 76)],
+        0x13 => &[VMID, LEAF, (127, 76)],
+        0x2A => &[VMID, LEAF, (115, 76)],
+        0x30 => &[],
+        0x46 => &[(13, 12), (27, 22), (63, 32), (127, 64)],
+        _ => return None,
+    })
+}
+
+/// Whether a bit outside the named parts is set. Without stage 2 the VMID
+/// counts as unnamed.
+fn reserved_bit_set(low: u64, high: u64, names: &[Bits], features: Features) -> bool {
+    let mut rest = ((high as u128) << 64 | low as u128) & !0xFF;
+    for &(top, bottom) in names {
+        if (top, bottom) != VMID || features.s2p {
+            rest &= !((u128::MAX >> (127 + bottom - top)) << bottom);
+        }
+    }
+    rest != 0
+}
+
+/// The feature that a code can't do without.
+fn supported(code: u64, features: Features) -> bool {
+    match code {
+        0x05 | 0x06 | 0x10..=0x13 => features.s1p,
+        0x28 | 0x2A => features.s2p,
+        _ => true,
+    }
+}
+
+/// Whether the command holds an ASID or VMID above what the features allow.
+fn too_wide(low: u64, names: &[Bits], features: Features) -> bool {
+    (names.contains(&ASID) && !features.asid16 && part(low, 63, 56) != 0)
+        || (names.contains(&VMID) && !features.vmid16 && part(low, 47, 40) != 0)
+}
+
+/// The effect of a legal command; None if it's illegal.
+pub fn decode(low: u64, high: u64, features: Features) -> Option<Effect> {
+    let code = part(low, 7, 0);
+    let names = named(code)?;
+    if reserved_bit_set(low, high, names, features) || !supported(code, features) {
+        return None;
+    }
+    if too_wide(low, names, features) {
+        return Some(Effect::TooWide);
+    }
+    match code {
+        0x01 | 0x02 => Some(Effect::Nothing),
+        0x46 => match part(low, 13, 12) {
+            3 => None,
+            1 => Some(Effect::Signal),
+            _ => Some(Effect::Nothing),
+        },
+        _ => Some(Effect::Remove(scope(code, low, high))),
+    }
+}
+
+/// The rows that a legal removing command is after.
+fn scope(code: u64, low: u64, high: u64) -> Scope {
+    let vmid = part(low, 47, 32);
+    let asid = part(low, 63, 48);
+    let leaf = bit(high, 0);
+    // The field keeps the address's own places; the bits below are dropped.
+    let address = part(high, 63, 12) << 12;
+    let page = Page {
+        vmid,
+        leaf,
+        address,
+    };
+    match code {
+        0x03..=0x06 => stream_scope(code, low, high),
+        0x10 => Scope::Stage1 { vmid },
+        0x11 => Scope::Space { vmid, asid },
+        0x12 => Scope::Stage1Page(page, Some(asid)),
+        0x13 => Scope::Stage1Page(page, None),
+        0x28 => Scope::BothStages { vmid },
+        0x2A => Scope::Stage2Page(page),
+        _ => Scope::Everything,
+    }
+}
+
+fn stream_scope(code: u64, low: u64, high: u64) -> Scope {
+    let stream = part(low, 63, 32);
+    let substream = part(low, 31, 12);
+    // Bit 64 is Leaf in 03 and 05, but part of Range in 04.
+    let leaf = bit(high, 0) && code != 0x04;
+    let low_bits = if code == 0x04 {
+        part(high, 4, 0) + 1
+    } else {
+        0
+    };
+    match code {
+        0x03 | 0x04 => Scope::Streams {
+            stream,
+            low_bits,
+            leaf,
+        },
+        0x05 => Scope::Substream {
+            stream,
+            substream,
+            leaf,
+        },
+        _ => Scope::Descriptors { stream },
+    }
+}

@@ -1,0 +1,19 @@
+//! Document 01 once more, written from the paper alone, on plain words and slices.
+//!
+//! One file for each part of the paper. Nothing here looks at the unit under
+//! test, and nothing here is clever: a reader should be able to hold each
+//! function beside the sentence that it cites.
+
+pub mod attributes;
+pub mod command;
+pub mod control;
+pub mod control_calls;
+pub mod fill;
+pub mod image;
+pub mod refusal;
+pub mod row;
+pub mod run;
+pub mod scope;
+pub mod state;
+pub mod transaction;
+pub mod words;

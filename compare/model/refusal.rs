@@ -1,0 +1,33 @@
+//! The ten ways of saying no (document 01, When the unit says no).
+
+#[derive(Clone, Copy, Debug, PartialEq, Eq)]
+pub enum Refusal {
+    Length,
+    Control,
+    /// Carries the lowest ill-formed row, counted from 0.
+    Row(usize),
+    QueueLength,
+    Doorbell,
+    NoError,
+    RowNumber,
+    RowInUse,
+    RowWords,
+    Attributes,
+}
+
+impl Refusal {
+    pub fn number(self) -> u64 {
+        match self {
+            Refusal::Length => 1,
+            Refusal::Control => 2,
+            Refusal::Row(_) => 3,
+            Refusal::QueueLength => 4,
+            Refusal::Doorbell => 5,
+            Refusal::NoError => 6,
+            Refusal::RowNumber => 7,
+            Refusal::RowInUse => 8,
+            Refusal::RowWords => 9,
+            Refusal::Attributes => 10,
+        }
+    }
+}

@@ -1,0 +1,172 @@
+//! One run over the queue (document 01, One run).
+
+use super::command::{decode, Effect, Features};
+use super::control::Control;
+use super::image;
+use super::refusal::Refusal;
+use super::row::Row;
+use super::scope::Scope;
+
+#[derive(Clone, Copy, Debug, PartialEq, Eq)]
+pub enum End {
+    Off,
+    Held,
+    Empty,
+    Raised,
+    Cut,
+}
+
+/// How a run ended, and its four counts.
+#[derive(Clone, Copy, Debug, PartialEq, Eq)]
+pub struct Report {
+    pub end: End,
+    pub consumed: u64,
+    pub stores: u64,
+    pub removed: u64,
+    pub syncs: u64,
+}
+
+/// What became of one command, for whoever watches a run.
+#[derive(Clone, Copy, Debug, PartialEq, Eq)]
+pub enum Fate {
+    /// Consumed, after this call removed so many rows for it.
+    Removed(u64),
+    TooWide,
+    Raised,
+}
+
+/// The kept memory together with the stores that may still be made in it.
+struct Writer<'a> {
+    kept: &'a mut [u64],
+    left: u64,
+    report: Report,
+}
+
+impl Writer<'_> {
+    /// One store, or the end of the run if none is left.
+    fn store(&mut self, place: usize, word: u64) -> Result<(), End> {
+        self.left = self.left.checked_sub(1).ok_or(End::Cut)?;
+        self.kept[place] = word;
+        self.report.stores += 1;
+        Ok(())
+    }
+
+    fn row(&self, place: usize) -> Row {
+        Row([
+            self.kept[place],
+            self.kept[place + 1],
+            self.kept[place + 2],
+            self.kept[place + 3],
+        ])
+    }
+
+    /// Carries out a legal command: the rows in scope, lowest first, then RD.
+    fn consume(&mut self, mut control: Control, effect: Effect) -> Result<Fate, End> {
+        let before = self.report.removed;
+        if let Effect::Remove(scope) = effect {
+            self.remove(scope)?;
+        }
+        control.rd = (control.rd + 1) % control.ring();
+        self.store(0, control.pack())?;
+        self.report.consumed += 1;
+        self.report.syncs += u64::from(effect == Effect::Signal);
+        match effect {
+            Effect::TooWide => Ok(Fate::TooWide),
+            _ => Ok(Fate::Removed(self.report.removed - before)),
+        }
+    }
+
+    fn remove(&mut self, scope: Scope) -> Result<(), End> {
+        for place in (1..self.kept.len()).step_by(4) {
+            if scope.takes(&self.row(place)) {
+                self.store(place, 0)?;
+                self.report.removed += 1;
+            }
+        }
+        Ok(())
+    }
+
+    /// Stops at an illegal command, which stays at RD.
+    fn raise(&mut self, mut control: Control) -> Result<Fate, End> {
+        control.err = 1;
+        control.gerror = !control.gerror;
+        self.store(0, control.pack())?;
+        Ok(Fate::Raised)
+    }
+}
+
+/// A run with at most `allowance` stores. `watch` is told each command's code
+/// and fate; a caller who only wants the report passes `|_, _| ()`.
+pub fn run(
+    kept: &mut [u64],
+    queue: &[u8],
+    features: Features,
+    allowance: u64,
+    mut watch: impl FnMut(u8, Fate),
+) -> Result<Report, Refusal> {
+    let control = image::accept(kept)?;
+    if queue.len() as u64 != 16 * control.slots() {
+        return Err(Refusal::QueueLength);
+    }
+    let report = Report {
+        end: End::Empty,
+        consumed: 0,
+        stores: 0,
+        removed: 0,
+        syncs: 0,
+    };
+    let mut writer = Writer {
+        kept,
+        left: allowance,
+        report,
+    };
+    loop {
+        if let Err(end) = command(&mut writer, queue, features, &mut watch) {
+            return Ok(Report {
+                end,
+                ..writer.report
+            });
+        }
+    }
+}
+
+/// Once through the paper's order: Ok if a command was consumed, else the end.
+fn command(
+    writer: &mut Writer,
+    queue: &[u8],
+    features: Features,
+    watch: &mut impl FnMut(u8, Fate),
+) -> Result<(), End> {
+    let control = Control::fields(writer.kept[0]);
+    if !control.enabled {
+        return Err(End::Off);
+    }
+    if control.active() {
+        return Err(End::Held);
+    }
+    if control.rd == control.wr {
+        return Err(End::Empty);
+    }
+    let (low, high) = fetch(queue, control.slot());
+    let fate = match decode(low, high, features) {
+        Some(effect) => writer.consume(control, effect)?,
+        None => writer.raise(control)?,
+    };
+    watch(low as u8, fate);
+    match fate {
+        Fate::Raised => Err(End::Raised),
+        _ => Ok(()),
+    }
+}
+
+/// Low and high word of a slot; the guest's bytes are little-endian.
+fn fetch(queue: &[u8], slot: u64) -> (u64, u64) {
+    let start = 16 * slot as usize;
+    let word = |from: usize| {
+        queue[from..from + 8]
+            .iter()
+            .rev()
+            .fold(0, |word, &byte| word << 8 | u64::from(byte))
+    };
+    (word(start), word(start + 8))
+}

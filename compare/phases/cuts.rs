@@ -1,0 +1,166 @@
+//! Power cuts: a run or a fill stopped after any number of stores and called
+//! again (document 01, One run).
+
+use crate::call::{Call, CUT};
+use crate::checker::Checker;
+use crate::generate::commands::{features, queue_with};
+use crate::generate::images::{control, image, queue_for, table, with_rows};
+use crate::generate::random::Random;
+use crate::generate::rows::any_row;
+use crate::generate::world::World;
+use crate::model::control::Control;
+
+pub fn cuts(checker: &mut Checker) {
+    full_queues(checker);
+    chains(checker);
+    fills(checker);
+}
+
+/// A memory, its queue and the features to run it with.
+struct Work {
+    kept: Vec<u64>,
+    queue: Vec<u8>,
+    features: u64,
+}
+
+impl Work {
+    fn run(&self, allowance: u64) -> Call<'_> {
+        Call::Run {
+            queue: &self.queue,
+            features: self.features,
+            allowance,
+        }
+    }
+}
+
+/// A rarity at which a whole queue is legal.
+const NEVER: u64 = u64::MAX;
+
+/// 256 commands over 128 rows, starting anywhere in the ring; an illegal command
+/// comes about once in `rarity`.
+fn full(random: &mut Random, rarity: u64) -> Work {
+    let world = World::new(random);
+    let any = control(random, 8);
+    let full = Control {
+        wr: (any.rd + 256) % 512,
+        gerrorn: any.gerror,
+        enabled: true,
+        ..any
+    };
+    let rows: Vec<_> = (0..128).map(|_| any_row(random, &world)).collect();
+    let features = if rarity == NEVER {
+        0b1111
+    } else {
+        features(random)
+    };
+    let queue = queue_with(random, &world, features, 256, rarity);
+    Work {
+        kept: with_rows(full, &rows),
+        queue,
+        features,
+    }
+}
+
+fn full_queues(checker: &mut Checker) {
+    let mut random = checker.phase("a full queue cut at every store");
+    let some = [500, 500, 200, 200, 100, 100, 50, 20];
+    for rarity in [NEVER; 4].into_iter().chain(some) {
+        let work = full(&mut random, rarity);
+        every_cut(checker, &work);
+    }
+}
+
+const SINGLE: &str = "one store more isn't one word more";
+const SAME: &str = "a cut run called again isn't the uncut run";
+
+/// The run cut after each number of stores, and then called to its end.
+fn every_cut(checker: &mut Checker, work: &Work) {
+    let mut whole = work.kept.clone();
+    let uncut = checker.call(&mut whole, work.run(u64::MAX));
+    let mut previous = work.kept.clone();
+    for allowance in 0..=uncut.answer[2] {
+        let mut kept = work.kept.clone();
+        let call = work.run(allowance);
+        let first = checker.call(&mut kept, call);
+        let single = changed(&previous, &kept) == allowance.min(1);
+        checker.insist(single, SINGLE, &work.kept, call, (first, &kept));
+        previous.clone_from(&kept);
+        let mut sums = first.answer;
+        if first.answer[0] == CUT {
+            let rest = checker.call(&mut kept, work.run(u64::MAX));
+            add(&mut sums, rest.answer);
+        }
+        let equal = kept == whole && sums == uncut.answer;
+        checker.insist(equal, SAME, &work.kept, call, (first, &kept));
+    }
+}
+
+fn changed(before: &[u64], after: &[u64]) -> u64 {
+    let pairs = before.iter().zip(after);
+    pairs.filter(|(then, now)| then != now).count() as u64
+}
+
+/// Adds the four counts; the end is the last call's.
+fn add(sums: &mut [u64; 8], answer: [u64; 8]) {
+    sums[0] = answer[0];
+    (1..5).for_each(|place| sums[place] += answer[place]);
+}
+
+/// Runs cut again and again, each time after a few stores.
+fn chains(checker: &mut Checker) {
+    let mut random = checker.phase("chains of cuts");
+    for _ in 0..6_000 {
+        let world = World::new(&mut random);
+        let features = features(&mut random);
+        let kept = image(&mut random, &world);
+        let queue = queue_for(&mut random, &world, &kept, features);
+        let work = Work {
+            kept,
+            queue,
+            features,
+        };
+        chain(checker, &mut random, &work);
+    }
+}
+
+fn chain(checker: &mut Checker, random: &mut Random, work: &Work) {
+    let mut whole = work.kept.clone();
+    let call = work.run(u64::MAX);
+    let uncut = checker.call(&mut whole, call);
+    let step = random.pick(&[1, 2, 5, 20]).max(uncut.answer[2] / 8);
+    let mut kept = work.kept.clone();
+    let mut sums = [CUT, 0, 0, 0, 0, 0, 0, 0];
+    while sums[0] == CUT {
+        let allowance = random.between(0, 2 * step);
+        let reply = checker.call(&mut kept, work.run(allowance));
+        add(&mut sums, reply.answer);
+    }
+    let equal = kept == whole && sums == uncut.answer;
+    checker.insist(equal, SAME, &work.kept, call, (uncut, &kept));
+}
+
+/// Fills with every allowance from 0 to 6, called again until refused as used.
+fn fills(checker: &mut Checker) {
+    let mut random = checker.phase("fills cut at every store");
+    for _ in 0..700 {
+        let world = World::new(&mut random);
+        let count = random.between(1, 6);
+        let mut rows = table(&mut random, &world, count as usize);
+        let row = random.below(count);
+        rows[row as usize][0] = 0;
+        let words = any_row(&mut random, &world);
+        for allowance in 0..=6 {
+            let mut kept = with_rows(control(&mut random, 1), &rows);
+            for allowance in [allowance, random.below(4), allowance, 4] {
+                checker.call(
+                    &mut kept,
+                    Call::Fill {
+                        row,
+                        words,
+                        allowance,
+                    },
+                );
+            }
+        }
+    }
+}

@@ -1,0 +1,32 @@
+//! The inputs, one file for each sort.
+
+pub mod attributes;
+pub mod cases;
+pub mod commands;
+pub mod controls;
+pub mod cuts;
+pub mod formats;
+pub mod sessions;
+pub mod single;
+
+use crate::model::control::Control;
+
+/// A queue of 2^log2size slots with `waiting` commands from slot 0 on, enabled
+/// and without an error.
+fn waiting(log2size: u64, waiting: u64) -> Control {
+    let none = Control::fields(0);
+    Control {
+        wr: waiting,
+        enabled: true,
+        log2size,
+        ..none
+    }
+}
+
+/// Commands as the guest's bytes.
+fn bytes(commands: &[(u64, u64)]) -> Vec<u8> {
+    commands
+        .iter()
+        .flat_map(|&(low, high)| [low.to_le_bytes(), high.to_le_bytes()].concat())
+        .collect()
+}

@@ -1,0 +1,88 @@
+//! The last words of a run that found a difference: enough to repeat the call.
+
+use crate::call::{Call, Reply, NAMES};
+
+/// One call, with what each side made of it.
+pub struct Scene<'a> {
+    pub seed: u64,
+    pub phase: &'static str,
+    pub serial: u64,
+    pub before: &'a [u64],
+    pub call: Call<'a>,
+    pub unit: (Reply, &'a [u64]),
+    pub model: (Reply, &'a [u64]),
+}
+
+/// Prints the scene and ends the program.
+pub fn stop(scene: &Scene, what: &str) -> ! {
+    println!("\nDIFFERENCE: {what}");
+    println!(
+        "seed {:#x}, phase \"{}\", compared call {}",
+        scene.seed, scene.phase, scene.serial
+    );
+    print_call(&scene.call);
+    print_memory(scene.before);
+    for (side, (reply, _)) in [("unit", scene.unit), ("model", scene.model)] {
+        let answer: Vec<String> = reply
+            .answer
+            .iter()
+            .map(|word| format!("{word:#x}"))
+            .collect();
+        println!("{side} returned {} with {}", reply.number, answer.join(" "));
+    }
+    for (place, (theirs, ours)) in scene.unit.1.iter().zip(scene.model.1).enumerate() {
+        if theirs != ours {
+            println!("word {place} after the call: unit {theirs:#018x}, model {ours:#018x}");
+        }
+    }
+    std::process::exit(1)
+}
+
+fn print_call(call: &Call) {
+    print!("call {}", NAMES[call.index()]);
+    match *call {
+        Call::Run {
+            queue,
+            features,
+            allowance,
+        } => {
+            println!(" features {features:#x} allowance {allowance:#x}");
+            let words: Vec<u64> = queue.chunks(8).map(little_endian).collect();
+            println!("queue of {} bytes:", queue.len());
+            print_lines(&words, 2);
+        }
+        Call::Fill {
+            row,
+            words,
+            allowance,
+        } => {
+            println!(" row {row:#x} words {words:#018x?} allowance {allowance:#x}");
+        }
+        Call::Doorbell { wr } => println!(" wr {wr:#x}"),
+        Call::Enable { on } => println!(" on {on:#x}"),
+        Call::Translate(asked) => println!(" {asked:#x?}"),
+        Call::Acknowledge | Call::State => println!(),
+    }
+}
+
+fn little_endian(bytes: &[u8]) -> u64 {
+    bytes
+        .iter()
+        .rev()
+        .fold(0, |word, &byte| word << 8 | u64::from(byte))
+}
+
+/// The control word on a line of its own, then a row to each line.
+fn print_memory(kept: &[u64]) {
+    let (control, rows) = kept.split_at(kept.len().min(1));
+    println!("kept memory before the call, {} words:", kept.len());
+    print_lines(control, 1);
+    print_lines(rows, 4);
+}
+
+fn print_lines(words: &[u64], width: usize) {
+    for line in words.chunks(width) {
+        let line: Vec<String> = line.iter().map(|word| format!("{word:#018x}")).collect();
+        println!("  {}", line.join(" "));
+    }
+}

@@ -1,0 +1,174 @@
+//! What was compared: a kind that never occurred has to be seen.
+
+use crate::call::{Call, Reply, NAMES};
+use crate::generate::commands::CODES;
+use crate::model::run::Fate;
+
+/// The place for all codes that aren't commands, after those that are.
+const OTHER: usize = CODES.len();
+const RUN_ENDS: [&str; 5] = ["Off", "Held", "Empty", "Raised", "Cut"];
+const FILL_ENDS: [&str; 2] = ["Filled", "Cut"];
+const OUTCOMES: [&str; 6] = [
+    "address",
+    "Abort",
+    "Miss STE",
+    "Miss CD",
+    "Miss stage 1",
+    "Miss stage 2",
+];
+const CONFIGS: [usize; 5] = [0, 4, 5, 6, 7];
+
+#[derive(Default)]
+pub struct Tally {
+    pub compared: u64,
+    calls: [u64; 7],
+    refusals: [[u64; 11]; 7],
+    run_ends: [u64; 5],
+    fill_ends: [u64; 2],
+    outcomes: [u64; 6],
+    consumed: [u64; OTHER + 1],
+    removing: [u64; OTHER + 1],
+    too_wide: [u64; OTHER + 1],
+    raised: [u64; OTHER + 1],
+    configs: [u64; 8],
+    config_hits: [u64; 8],
+}
+
+impl Tally {
+    pub fn count(&mut self, call: &Call, reply: &Reply) {
+        self.compared += 1;
+        self.calls[call.index()] += 1;
+        self.refusals[call.index()][reply.number as usize] += 1;
+        let first = reply.answer[0] as usize;
+        match call {
+            _ if reply.number != 0 => (),
+            Call::Run { .. } => self.run_ends[first] += 1,
+            Call::Fill { .. } => self.fill_ends[first] += 1,
+            Call::Translate(_) => self.outcomes[first] += 1,
+            _ => (),
+        }
+    }
+
+    pub fn count_command(&mut self, code: u8, fate: Fate) {
+        let place = CODES
+            .iter()
+            .position(|&known| known == u64::from(code))
+            .unwrap_or(OTHER);
+        if fate == Fate::Raised {
+            self.raised[place] += 1;
+            return;
+        }
+        self.consumed[place] += 1;
+        match fate {
+            Fate::TooWide => self.too_wide[place] += 1,
+            Fate::Removed(rows) if rows > 0 => self.removing[place] += 1,
+            _ => (),
+        }
+    }
+
+    /// A transaction whose STE row was found, and whether it came through.
+    pub fn count_config(&mut self, config: u64, hit: bool) {
+        self.configs[config as usize] += 1;
+        self.config_hits[config as usize] += u64::from(hit);
+    }
+
+    /// Prints the table; returns how many kinds that should occur never did.
+    pub fn print(&self) -> usize {
+        let mut table = Table::default();
+        self.print_calls(&mut table);
+        for (title, names, counts) in [
+            ("Ends of runs", &RUN_ENDS[..], &self.run_ends[..]),
+            ("Ends of fills", &FILL_ENDS, &self.fill_ends),
+            ("Outcomes of transactions", &OUTCOMES, &self.outcomes),
+        ] {
+            println!("\n{title}");
+            for (name, &count) in names.iter().zip(counts) {
+                println!("  {name:<14}{}", table.cell(count, true));
+            }
+        }
+        self.print_configs(&mut table);
+        self.print_commands(&mut table);
+        table.missing
+    }
+
+    fn print_calls(&self, table: &mut Table) {
+        print!(
+            "Calls compared: {}\n  {:<14}{:>9}",
+            self.compared, "", "calls"
+        );
+        (1..=10).for_each(|number| print!("{:>9}", format!("no {number}")));
+        println!();
+        for (call, name) in NAMES.iter().enumerate() {
+            print!("  {name:<14}{}", table.cell(self.calls[call], true));
+            for number in 1..=10 {
+                print!(
+                    "{}",
+                    table.cell(self.refusals[call][number], refusable(call, number))
+                );
+            }
+            println!();
+        }
+    }
+
+    fn print_configs(&self, table: &mut Table) {
+        println!("\n  {:<14}{:>9}{:>9}", "Config", "found", "address");
+        for config in CONFIGS {
+            let found = table.cell(self.configs[config], true);
+            let hits = table.cell(self.config_hits[config], config != 0);
+            println!("  {config:<14}{found}{hits}");
+        }
+    }
+
+    fn print_commands(&self, table: &mut Table) {
+        let heads = ["legal", "removing", "too wide", "illegal"];
+        print!("\n  {:<14}", "Command");
+        heads.iter().for_each(|head| print!("{head:>9}"));
+        println!();
+        for place in 0..=OTHER {
+            let code = CODES.get(place).copied().unwrap_or(0);
+            let known = place < OTHER;
+            let name = if known {
+                format!("{code:02X}")
+            } else {
+                "other".into()
+            };
+            let removes = known && !matches!(code, 0x01 | 0x02 | 0x46);
+            let widths = matches!(code, 0x10..=0x13 | 0x28 | 0x2A);
+            print!("  {name:<14}{}", table.cell(self.consumed[place], known));
+            print!("{}", table.cell(self.removing[place], removes));
+            print!("{}", table.cell(self.too_wide[place], widths));
+            println!("{}", table.cell(self.raised[place], true));
+        }
+    }
+}
+
+/// Whether a call can give a refusal at all.
+fn refusable(call: usize, number: usize) -> bool {
+    match number {
+        1..=3 => true,
+        4 => NAMES[call] == "run",
+        5 => NAMES[call] == "doorbell",
+        6 => NAMES[call] == "acknowledge",
+        7..=9 => NAMES[call] == "fill",
+        _ => NAMES[call] == "translate",
+    }
+}
+
+#[derive(Default)]
+struct Table {
+    missing: usize,
+}
+
+impl Table {
+    /// A count; one that should occur and never did stands out.
+    fn cell(&mut self, count: u64, wanted: bool) -> String {
+        match (count, wanted) {
+            (0, true) => {
+                self.missing += 1;
+                format!("{:>9}", "NEVER")
+            }
+            (0, false) => format!("{:>9}", "-"),
+            _ => format!("{count:>9}"),
+        }
+    }
+}

@@ -1,0 +1,90 @@
+//! The unit under test, through its C interface.
+
+use crate::call::{Asked, Call};
+use crate::lent::Lent;
+
+extern "C" {
+    fn tahvenno_run(
+        kept: *mut u64,
+        words: usize,
+        queue: *const u8,
+        bytes: usize,
+        features: u64,
+        allowance: u64,
+        answer: *mut u64,
+    ) -> u64;
+    fn tahvenno_fill(
+        kept: *mut u64,
+        words: usize,
+        row: u64,
+        w0: u64,
+        w1: u64,
+        w2: u64,
+        w3: u64,
+        allowance: u64,
+        answer: *mut u64,
+    ) -> u64;
+    fn tahvenno_doorbell(kept: *mut u64, words: usize, wr: u64, answer: *mut u64) -> u64;
+    fn tahvenno_acknowledge(kept: *mut u64, words: usize, answer: *mut u64) -> u64;
+    fn tahvenno_enable(kept: *mut u64, words: usize, on: u64, answer: *mut u64) -> u64;
+    fn tahvenno_translate(
+        kept: *const u64,
+        words: usize,
+        stream: u32,
+        substream: u32,
+        address: u64,
+        how: u64,
+        memattr: u64,
+        sh: u64,
+        hints: u64,
+        answer: *mut u64,
+    ) -> u64;
+    fn tahvenno_state(kept: *const u64, words: usize, answer: *mut u64) -> u64;
+}
+
+/// Makes the call; returns the number, and leaves eight words in `answer`.
+pub fn perform(call: Call, kept: &mut Lent, answer: &mut Lent) -> u64 {
+    let words = kept.inner().len();
+    let memory = kept.inner_mut().as_mut_ptr();
+    let answer = answer.inner_mut().as_mut_ptr();
+    // SAFETY: the pointers come from live borrows of the lengths given beside
+    // them, eight words for the answer; those of memory and answer are exclusive.
+    unsafe {
+        match call {
+            Call::Run {
+                queue,
+                features,
+                allowance,
+            } => {
+                let (first, bytes) = (queue.as_ptr(), queue.len());
+                tahvenno_run(memory, words, first, bytes, features, allowance, answer)
+            }
+            Call::Fill {
+                row,
+                words: [w0, w1, w2, w3],
+                allowance,
+            } => tahvenno_fill(memory, words, row, w0, w1, w2, w3, allowance, answer),
+            Call::Doorbell { wr } => tahvenno_doorbell(memory, words, wr, answer),
+            Call::Acknowledge => tahvenno_acknowledge(memory, words, answer),
+            Call::Enable { on } => tahvenno_enable(memory, words, on, answer),
+            Call::Translate(asked) => translate(memory, words, asked, answer),
+            Call::State => tahvenno_state(memory, words, answer),
+        }
+    }
+}
+
+/// Takes the transaction apart for the C interface.
+unsafe fn translate(memory: *const u64, words: usize, asked: Asked, answer: *mut u64) -> u64 {
+    tahvenno_translate(
+        memory,
+        words,
+        asked.stream,
+        asked.substream,
+        asked.address,
+        asked.how,
+        asked.memattr,
+        asked.sh,
+        asked.hints,
+        answer,
+    )
+}

@@ -1,0 +1,107 @@
+/*
+ * Tahvenno: the command queue, the cached rows and the translation of an emulated Arm SMMUv3.
+ *
+ * Memory. The caller owns everything. `kept` points to the kept memory, `words` 64-bit words: one control word, then rows of
+ * four words (at most 128 rows, so 513 words). `queue` points to the guest's command queue, `bytes` bytes of 16 a slot.
+ * `answer` points to eight words that the call fills, those not named below with zero. The unit keeps no pointer and no
+ * state of its own between calls, allocates nothing, and needs no function of a C library.
+ *
+ * What the caller sees to, since the proof takes it for granted: no pointer is null, also where a length is 0; kept, queue and
+ * answer do not overlap; and until a call returns nobody else writes to what is lent to it. So lend a private copy of the
+ * guest's queue, or stop the guest: bytes that change during a call are outside the proof. One call at a time on one kept
+ * memory.
+ *
+ * What comes back. Each call returns 0 if it was carried out, else the number of its refusal, and then not one word of kept
+ * memory has changed. Whatever the words and bytes are, a call ends and gives one of these:
+ *
+ *    1  the length is not 1 + 4 N words, N from 1 to 128
+ *    2  the control word is ill formed
+ *    3  a row is ill formed; answer[0] is the lowest such row, counted from 0
+ *    4  run: the queue's length is not 16 times 2^LOG2SIZE bytes
+ *    5  doorbell: no index that WR may become
+ *    6  acknowledge: no error is active
+ *    7  fill: no such row
+ *    8  fill: the row is in use
+ *    9  fill: the four words are ill formed or empty
+ *   10  translate: MemAttr, SH or hints are ill formed or too wide
+ *
+ * 1, 2 and 3 are tried first, by every call.
+ *
+ * Power cuts. A run and a fill store single 64-bit words, in an order that does not depend on the allowance, and make at most
+ * `allowance` of them: a call with allowance k leaves what a power cut after its k-th store leaves. After a restart:
+ *
+ *   run   call it again, with any allowance and the same queue and features, until it does not end Cut. Memory and the sums
+ *         of the four counts are then those of a run that was never cut.
+ *   fill  call it again with the same words and an allowance of 4 or more: it starts from its first store every time, and
+ *         until its last store the row is an empty one.
+ *
+ * The other calls store one word or none.
+ */
+#ifndef TAHVENNO_H
+#define TAHVENNO_H
+
+#include <stddef.h>
+#include <stdint.h>
+
+#ifdef __cplusplus
+extern "C" {
+#endif
+
+/* Bits of `features`: what the emulated unit has. The others are not looked at. */
+#define TAHVENNO_S1P UINT64_C(1)
+#define TAHVENNO_S2P UINT64_C(2)
+#define TAHVENNO_ASID16 UINT64_C(4)
+#define TAHVENNO_VMID16 UINT64_C(8)
+
+/* How a run ends, in answer[0]. */
+enum { TAHVENNO_OFF, TAHVENNO_HELD, TAHVENNO_EMPTY, TAHVENNO_RAISED, TAHVENNO_CUT };
+
+/* How a fill ends, in answer[0]. */
+enum { TAHVENNO_FILLED, TAHVENNO_FILL_CUT };
+
+/* Bits of `how`: the kind of a transaction. The others are not looked at. */
+#define TAHVENNO_WRITE UINT64_C(1)
+#define TAHVENNO_INSTRUCTION UINT64_C(2)
+#define TAHVENNO_PRIVILEGED UINT64_C(4)
+
+/* What comes of a transaction, in answer[0]. */
+enum {
+    TAHVENNO_ADDRESS,
+    TAHVENNO_ABORT,
+    TAHVENNO_MISS_STE,
+    TAHVENNO_MISS_CD,
+    TAHVENNO_MISS_STAGE1,
+    TAHVENNO_MISS_STAGE2
+};
+
+/* Carries out the commands that wait. answer: the end, commands consumed, stores made, rows removed, and consumed CMD_SYNCs
+ * that ask for an interrupt (CS 1). */
+uint64_t tahvenno_run(uint64_t *kept, size_t words, const uint8_t *queue, size_t bytes, uint64_t features,
+                      uint64_t allowance, uint64_t answer[8]);
+
+/* Fills an empty row with four words. answer: the end, stores made. */
+uint64_t tahvenno_fill(uint64_t *kept, size_t words, uint64_t row, uint64_t w0, uint64_t w1, uint64_t w2, uint64_t w3,
+                       uint64_t allowance, uint64_t answer[8]);
+
+/* The guest wrote WR. */
+uint64_t tahvenno_doorbell(uint64_t *kept, size_t words, uint64_t wr, uint64_t answer[8]);
+
+/* The guest acknowledged the error: GERRORN becomes equal to GERROR. */
+uint64_t tahvenno_acknowledge(uint64_t *kept, size_t words, uint64_t answer[8]);
+
+/* Enables the queue if `on` is not 0, else disables it. */
+uint64_t tahvenno_enable(uint64_t *kept, size_t words, uint64_t on, uint64_t answer[8]);
+
+/* Translates one access; kept memory is only read. A substream of 2^20 or more matches no CD row. answer: the outcome, and of
+ * an address that address, MemAttr, SH, hints, instruction (0 or 1), privileged (0 or 1). */
+uint64_t tahvenno_translate(const uint64_t *kept, size_t words, uint32_t stream, uint32_t substream, uint64_t address,
+                            uint64_t how, uint64_t memattr, uint64_t sh, uint64_t hints, uint64_t answer[8]);
+
+/* answer: RD, WR, ERR, whether an error is active (0 or 1), whether the queue is enabled (0 or 1), used rows. */
+uint64_t tahvenno_state(const uint64_t *kept, size_t words, uint64_t answer[8]);
+
+#ifdef __cplusplus
+}
+#endif
+
+#endif
