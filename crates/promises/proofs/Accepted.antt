@@ -11,7 +11,7 @@ use Rattle.commands.specs.declared.Features.{Features}
 use Rattle.image.specs.Image.{rowsIn, controlOf}
 use Rattle.image.proofs.Checks.{Accepts, rows-are}
 use Rattle.image.proofs.AfterStores.{control-stored, row-cleared}
-use Rattle.runs.specs.Due.{What}
+use Rattle.steps.specs.Due.{What}
 use Rattle.runs.specs.Running.{Next, stores, dueIn, run}
 use Rattle.promises.proofs.Cases.{Case, removes, consumes, raises, IsDue, is-due}
 use Rattle.promises.proofs.Sums.{run-keeps}

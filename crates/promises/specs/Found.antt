@@ -14,9 +14,9 @@ use Rattle.commands.specs.declared.Decoded.{Decoded}
 use Rattle.commands.specs.declared.Decoded.the-variants.{Legal}
 use Rattle.commands.specs.Decoding.{decodeAt}
 use Rattle.image.specs.Image.{controlOf}
+use Rattle.steps.specs.Due.{scopedAt}
 use Rattle.runs.specs.declared.End.{End}
 use Rattle.runs.specs.declared.End.the-variants.{Off, Held, Empty, Raised, Cut}
-use Rattle.runs.specs.Due.{scopedAt}
 
 -- the control word after t commands are consumed
 unfoldable pub advanced : ℕ → ℕ → ℕ

@@ -12,7 +12,7 @@ use Rattle.commands.specs.declared.Command.{Command}
 use Rattle.commands.specs.declared.Decoded.the-variants.{Legal}
 use Rattle.commands.specs.Decoding.{syncsOf}
 use Rattle.image.specs.Image.{controlOf}
-use Rattle.runs.specs.Due.{scopedAt}
+use Rattle.steps.specs.Due.{scopedAt}
 use Rattle.runs.specs.Running.{plus, run}
 
 -- the rows in scope have word 0 zero, RD is one on, and every other word is as it was

@@ -3,7 +3,7 @@
 use mathlib.Core.Path.{_≡_}
 use mathlib.Core.Bool.{Bool}
 use mathlib.Core.List.{List}
-use Prim.Native.Nat.{ℕ, _+_, _-_, _*_, _^_, _≤_}
+use Prim.Native.Nat.{ℕ, _+_, _-_, _*_, _≤_}
 use lib.ListN.{length, set}
 use Rattle.words.specs.Choice.{pick}
 use Rattle.words.specs.Search.{lowest}
@@ -20,9 +20,9 @@ use Rattle.commands.specs.declared.Decoded.{Decoded}
 use Rattle.commands.specs.declared.Decoded.the-variants.{Legal, Illegal}
 use Rattle.commands.specs.Decoding.{decodeAt, syncsOf}
 use Rattle.scopes.specs.Scopes.{inScope}
-use Rattle.image.specs.Image.{maxRows, rowsIn, controlOf, rowAt}
-use Rattle.runs.specs.declared.Stepped.{Stepped}
-use Rattle.runs.specs.declared.Stepped.the-variants.{Removed, Consumed, DidRaise}
+use Rattle.image.specs.Image.{rowsIn, controlOf, rowAt}
+use Rattle.steps.specs.declared.Stepped.{Stepped}
+use Rattle.steps.specs.declared.Stepped.the-variants.{Removed, Consumed, DidRaise}
 
 -- what a store does: it removes a row, consumes a command, of which so many CMD_SYNCs with CS 1, or raises the error
 pub data What : Type 0 where
@@ -90,9 +90,3 @@ pub record Ready (f : Features) (d : Decoded) (from : ℕ) (m : List ℕ) : Type
 pub record Made (f : Features) (d : Decoded) (m m′ : List ℕ) (r : Stepped) : Type 0 where
   pub is-due : dueFor f d m ≡ storeOf d m r
   pub stored : m′ ≡ made (storeOf d m r) m
-
--- what a run needs of an accepted image and its queue
-pub record Fit (queue m : List ℕ) : Type 0 where
-  pub room : 4 * rowsIn m + 1 ≤ length m
-  pub few : rowsIn m ≤ maxRows
-  pub slots : length queue ≡ 16 * 2 ^ control.log2size (controlOf m)

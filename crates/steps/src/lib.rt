@@ -1,5 +1,4 @@
 // Document 01, One run: the step, which makes the one store that is due. Nothing else of a run writes to the kept memory.
-use crate::Stepped;
 use commands::Command;
 use commands::Decoded;
 use commands::Features;
@@ -8,7 +7,14 @@ ghost use mathlib.Core.Path.{_≡_};
 ghost use Prim.Native.Nat.{_+_, _*_, _-_, _≤_};
 ghost use lib.ListN.{length};
 ghost use Rattle.image.specs.Image.{rowsIn};
-ghost use Rattle.runs.specs.Due.{scopedAt, scan, Ready, Made};
+ghost use Rattle.steps.specs.Due.{scopedAt, scan, Ready, Made};
+
+// The one store that a step made.
+pub enum Stepped {
+    Removed(usize),
+    Consumed,
+    DidRaise,
+}
 
 fn scoped_at(kept: &[u64], f: Features, c: Command, i: usize) -> bool
     requires { ⌜ 4 * i + 5 ≤ length (now kept) ⌝ }
@@ -36,7 +42,8 @@ fn find_from(kept: &[u64], f: Features, c: Command, from: usize) -> Found
     Found::Nothing
 }
 
-// Makes the store that is due for the command d, of which no row below `from` is in scope.
+// Makes the store that is due for the command d, of which no row below `from` is in scope. It is a part of a
+// run and no call of the unit, so it may ask something of its caller.
 pub fn step(kept: &mut [u64], f: Features, d: Decoded, from: usize) -> Stepped
     requires { ⌜ Ready f d from (now kept) ⌝ }
     ensures { λ r. ⌜ Made f d (now (kept .entry)) (now (kept .exit)) r ⌝ }

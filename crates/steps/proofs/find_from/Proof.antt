@@ -1,4 +1,4 @@
--- `runs::steps::find_from` meets its contract: what the whole scan finds, the rest of it finds; an idle command has no row in scope.
+-- `steps::find_from` meets its contract: what the whole scan finds, the rest of it finds; an idle command has no row in scope.
 -- Assumes nothing.
 use mathlib.Core.Path.{_≡_, refl, sym, _∙_}
 use mathlib.Core.List.{List}
@@ -9,10 +9,10 @@ use Rattle.words.proofs.Search.{here, later, nowhere}
 use Rattle.commands.specs.declared.Features.{Features}
 use Rattle.commands.specs.declared.Command.{Command}
 use Rattle.image.specs.Image.{rowsIn}
-use Rattle.runs.specs.Due.{scan}
-use Rattle.runs.proofs.Scans.{idle-finds-nothing}
-use Rattle.runs.proofs.steps.find_from.Statement.{statement}
-use Rattle.runs.proofs.steps.find_from.Tie as tie
+use Rattle.steps.specs.Due.{scan}
+use Rattle.steps.proofs.Scans.{idle-finds-nothing}
+use Rattle.steps.proofs.find_from.Statement.{statement}
+use Rattle.steps.proofs.find_from.Tie as tie
 
 pub record Rest (kept : List ℕ) (f : Features) (c : Command) (from i : ℕ) : Type 0 where
   pub within : i ≤ rowsIn kept

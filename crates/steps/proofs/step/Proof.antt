@@ -1,13 +1,13 @@
--- `runs::steps::step` meets its contract: the store is the one that is due.
+-- `steps::step` meets its contract: the store is the one that is due.
 -- Assumes nothing.
 use Prim.Native.Nat.{_<_, _+_, _*_}
 use native.Mathlib.Omega.{arith}
 use denote.Ref.{now}
 use borrow.Author.Needs.{needs}
 use Rattle.image.specs.Image.{rowsIn}
-use Rattle.runs.proofs.Asked.{row-lt, made-removed, made-consumed, made-raised}
-use Rattle.runs.proofs.steps.step.Statement.{statement}
-use Rattle.runs.proofs.steps.step.Tie as tie
+use Rattle.steps.proofs.Asked.{row-lt, made-removed, made-consumed, made-raised}
+use Rattle.steps.proofs.step.Statement.{statement}
+use Rattle.steps.proofs.step.Tie as tie
 
 in-image : (c : tie.After-known-told2) → c .before .i .given .0 .0 < rowsIn (now (c .before .before .before .before .before .before .before .before .before .args .kept))
 in-image c = row-lt (c .before .before .before .before .before .before .before .before .before .pre) (c .before .before .before .before .before .before .d .given .0 .0) (c .before .before .before .find-from .ensures) (c .before .i .given .1)

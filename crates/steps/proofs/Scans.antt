@@ -16,7 +16,7 @@ use Rattle.scopes.proofs.Laws.{idle-spares, empty-spared}
 use Rattle.rows.specs.declared.Row.{Row}
 use Rattle.image.specs.Image.{rowsIn, rowAt}
 use Rattle.image.proofs.AfterStores.{cleared, cleared-row, cleared-other, emptied, emptied-empty}
-use Rattle.runs.specs.Due.{scopedAt, scan}
+use Rattle.steps.specs.Due.{scopedAt, scan}
 
 module _ (f : Features) (c : Command) (m : List ℕ) where
   pub idle-finds-nothing : (n i : ℕ) → i ≤ n → idle f c ≡ true → scan f c m (n - i) i ≡ Nothing

@@ -1,9 +1,9 @@
--- `runs::steps::scoped_at` meets its contract.
+-- `steps::scoped_at` meets its contract.
 -- Assumes nothing.
-use Rattle.runs.specs.Due.{scopedAt}
+use Rattle.steps.specs.Due.{scopedAt}
 use borrow.Author.Needs.{needs}
-use Rattle.runs.proofs.steps.scoped_at.Statement.{statement}
-use Rattle.runs.proofs.steps.scoped_at.Tie as tie
+use Rattle.steps.proofs.scoped_at.Statement.{statement}
+use Rattle.steps.proofs.scoped_at.Tie as tie
 
 returns : tie.Need-returns
 unfolding scopedAt

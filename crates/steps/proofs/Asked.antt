@@ -15,10 +15,8 @@ use Rattle.commands.specs.declared.Decoded.{Decoded}
 use Rattle.commands.specs.declared.Decoded.the-variants.{Legal, Illegal}
 use Rattle.commands.specs.Decoding.{syncsOf}
 use Rattle.image.specs.Image.{rowsIn, controlOf}
-use Rattle.runs.specs.declared.Stepped.the-variants.{Removed, Consumed, DidRaise}
-use Rattle.runs.specs.declared.End.the-variants.{Cut}
-use Rattle.runs.specs.Due.{What, Remove, Consume, Raise, Due, Rests, Stores, scopedAt, scan, byScan, afterCommand, dueFor, storeOf, Ready, Made}
-use Rattle.runs.specs.Running.{rested, last, nextOf}
+use Rattle.steps.specs.declared.Stepped.the-variants.{Removed, Consumed, DidRaise}
+use Rattle.steps.specs.Due.{What, Remove, Consume, Raise, Due, Rests, Stores, scopedAt, scan, byScan, afterCommand, dueFor, storeOf, Ready, Made}
 
 module _ (f : Features) (c : Command) (from : ℕ) (m : List ℕ) (r : Ready f (Legal c) from m) where
   by-scan : (x : Found) → x ≡ scan f c m (rowsIn m - from) from → dueFor f (Legal c) m ≡ byScan c (controlOf m) x
@@ -68,13 +66,3 @@ pub due-removes : (f : Features) (d : Decoded) (m : List ℕ) (i : ℕ) → dueF
 unfolding dueFor
 due-removes f (Legal c) m i e = record { command = c; legal = refl; lowest-row = found-row c (controlOf m) i (scan f c m (rowsIn m) 0) e }
 due-removes f Illegal m i e = let z : _≡_ {A = ℕ} 0 1 = cc in absurd (omega arith)
-
--- something is always due for a command
-cut-scan : (c : Command) (w : ℕ) (x : Found) (m : List ℕ) → last (nextOf (byScan c w x) m) m ≡ rested Cut m
-cut-scan c w (At i) m = refl
-cut-scan c w Nothing m = refl
-
-pub due-cuts : (f : Features) (d : Decoded) (m : List ℕ) → last (nextOf (dueFor f d m) m) m ≡ rested Cut m
-unfolding dueFor
-due-cuts f (Legal c) m = cut-scan c (controlOf m) (scan f c m (rowsIn m) 0) m
-due-cuts f Illegal m = refl
