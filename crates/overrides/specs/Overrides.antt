@@ -5,9 +5,9 @@ use mathlib.Core.Bool.{Bool, true, false, not, _&&_}
 use lib.Dec.{eqb}
 use Rattle.words.specs.Choice.{pick}
 use Rattle.words.specs.Parts.{part}
 use Rattle.attributes.specs.declared.Attributes.{Attributes}
-use Rattle.attributes.specs.declared.Overrides.{Overrides}
+use Rattle.overrides.specs.declared.Overrides.{Overrides}
 use Rattle.attributes.specs.Formats.{outerCached, innerCached, nsh, osh, ish, innerHints, outerHints, joinHints}
 
 -- MTCFG 1 takes the row's MemAttr
 abbrev pub overrideMemAttr : Overrides → ℕ → ℕ

@@ -1,8 +1,8 @@
--- `attributes::overriding::override_mem_attr` meets its contract: by its test.
+-- `overrides::override_mem_attr` meets its contract: by its test.
 -- Assumes nothing.
 use borrow.Author.Tests.{ne-eqb}
-use Rattle.attributes.proofs.overriding.override_mem_attr.Statement.{statement}
-use Rattle.attributes.proofs.overriding.override_mem_attr.Tie as tie
+use Rattle.overrides.proofs.override_mem_attr.Statement.{statement}
+use Rattle.overrides.proofs.override_mem_attr.Tie as tie
 
 returns : tie.Need-returns
 returns c = rw (c .if1 .taken)

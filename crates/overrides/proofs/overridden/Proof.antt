@@ -1,9 +1,9 @@
--- `attributes::overriding::overridden` meets its contract: field by field.
+-- `overrides::overridden` meets its contract: field by field.
 -- Assumes nothing.
 use borrow.Author.Needs.{needs}
-use Rattle.attributes.specs.Overrides.{overridden}
-use Rattle.attributes.proofs.overriding.overridden.Statement.{statement}
-use Rattle.attributes.proofs.overriding.overridden.Tie as tie
+use Rattle.overrides.specs.Overrides.{overridden}
+use Rattle.overrides.proofs.overridden.Statement.{statement}
+use Rattle.overrides.proofs.overridden.Tie as tie
 
 returns : tie.Need-returns
 unfolding overridden

@@ -1,12 +1,12 @@
--- `attributes::overriding::bit` meets its contract: a part of one bit is below 2.
+-- `overrides::bit` meets its contract: a part of one bit is below 2.
 -- Assumes nothing.
 use mathlib.Core.Path.{_≡_}
 use Prim.Native.Nat.{_+_, _-_}
 use native.Mathlib.Omega.{arith}
 use borrow.Author.Needs.{needs}
 use Rattle.words.proofs.Parts.{part-lt}
-use Rattle.attributes.proofs.overriding.bit.Statement.{statement}
-use Rattle.attributes.proofs.overriding.bit.Tie as tie
+use Rattle.overrides.proofs.bit.Statement.{statement}
+use Rattle.overrides.proofs.bit.Tie as tie
 
 returns : tie.Need-returns
 returns c =

@@ -1,12 +1,12 @@
--- `attributes::overriding::forced` meets its contract: by the cases of its tests.
+-- `overrides::forced` meets its contract: by the cases of its tests.
 -- Assumes nothing.
 use mathlib.Core.Path.{_≡_, refl}
 use mathlib.Core.Bool.{Bool, true, false, not, _&&_, _||_}
 use lib.Dec.{eqb}
 use Rattle.words.specs.Choice.{pick}
-use Rattle.attributes.specs.Overrides.{forced}
-use Rattle.attributes.proofs.overriding.forced.Statement.{statement}
-use Rattle.attributes.proofs.overriding.forced.Tie as tie
+use Rattle.overrides.specs.Overrides.{forced}
+use Rattle.overrides.proofs.forced.Statement.{statement}
+use Rattle.overrides.proofs.forced.Tie as tie
 
 cases : (off on incoming : Bool) → (not off && (on || incoming)) ≡ pick off false (pick on true incoming)
 cases true on incoming = refl

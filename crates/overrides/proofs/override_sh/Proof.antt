@@ -1,9 +1,9 @@
--- `attributes::overriding::override_sh` meets its contract: by its tests.
+-- `overrides::override_sh` meets its contract: by its tests.
 -- Assumes nothing.
 use borrow.Author.Tests.{ne-eqb}
-use Rattle.attributes.specs.Overrides.{overrideSh}
-use Rattle.attributes.proofs.overriding.override_sh.Statement.{statement}
-use Rattle.attributes.proofs.overriding.override_sh.Tie as tie
+use Rattle.overrides.specs.Overrides.{overrideSh}
+use Rattle.overrides.proofs.override_sh.Statement.{statement}
+use Rattle.overrides.proofs.override_sh.Tie as tie
 
 returns : tie.Need-returns
 unfolding overrideSh

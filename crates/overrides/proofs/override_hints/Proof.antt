@@ -1,9 +1,9 @@
--- `attributes::overriding::override_hints` meets its contract: half by half.
+-- `overrides::override_hints` meets its contract: half by half.
 -- Assumes nothing.
 use borrow.Author.Needs.{needs}
-use Rattle.attributes.specs.Overrides.{overrideHints}
-use Rattle.attributes.proofs.overriding.override_hints.Statement.{statement}
-use Rattle.attributes.proofs.overriding.override_hints.Tie as tie
+use Rattle.overrides.specs.Overrides.{overrideHints}
+use Rattle.overrides.proofs.override_hints.Statement.{statement}
+use Rattle.overrides.proofs.override_hints.Tie as tie
 
 returns : tie.Need-returns
 unfolding overrideHints

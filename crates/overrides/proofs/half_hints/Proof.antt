@@ -1,9 +1,9 @@
--- `attributes::overriding::half_hints` meets its contract: by its tests.
+-- `overrides::half_hints` meets its contract: by its tests.
 -- Assumes nothing.
 use borrow.Author.Needs.{needs}
-use Rattle.attributes.specs.Overrides.{halfHints}
-use Rattle.attributes.proofs.overriding.half_hints.Statement.{statement}
-use Rattle.attributes.proofs.overriding.half_hints.Tie as tie
+use Rattle.overrides.specs.Overrides.{halfHints}
+use Rattle.overrides.proofs.half_hints.Statement.{statement}
+use Rattle.overrides.proofs.half_hints.Tie as tie
 
 returns : tie.Need-returns
 unfolding halfHints

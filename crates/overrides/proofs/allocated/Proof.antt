@@ -1,8 +1,8 @@
--- `attributes::overriding::allocated` meets its contract: three bits make a number below 8.
+-- `overrides::allocated` meets its contract: three bits make a number below 8.
 -- Assumes nothing.
 use borrow.Author.Needs.{needs}
-use Rattle.attributes.proofs.overriding.allocated.Statement.{statement}
-use Rattle.attributes.proofs.overriding.allocated.Tie as tie
+use Rattle.overrides.proofs.allocated.Statement.{statement}
+use Rattle.overrides.proofs.allocated.Tie as tie
 
 returns : tie.Need-returns
 returns c = (rw (c .before .before .bit .ensures .0, c .before .bit2 .ensures .0, c .bit3 .ensures .0), search needs)

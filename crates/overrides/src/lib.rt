@@ -1,17 +1,24 @@
 // Document 01, A transaction, step 2.
-use crate::Attributes;
-use crate::Overrides;
-use crate::formats::inner_cached;
-use crate::formats::inner_hints;
-use crate::formats::join_hints;
-use crate::formats::outer_cached;
-use crate::formats::outer_hints;
+use attributes::Attributes;
+use attributes::inner_cached;
+use attributes::inner_hints;
+use attributes::join_hints;
+use attributes::outer_cached;
+use attributes::outer_hints;
 ghost use mathlib.Core.Path.{_≡_};
 ghost use Prim.Native.Nat.{_<_};
 ghost use lib.Dec.{eqb};
 ghost use Rattle.words.specs.Choice.{pick};
 ghost use Rattle.words.specs.Parts.{part};
-ghost use Rattle.attributes.specs.Overrides.{overrideSh, allocated, halfHints, overrideHints, overridden, forced, instruction, privileged};
+ghost use Rattle.overrides.specs.Overrides.{overrideSh, allocated, halfHints, overrideHints, overridden, forced, instruction, privileged};
+
+// What an STE row overrides.
+pub struct Overrides {
+    pub mtcfg: u64,
+    pub memattr: u64,
+    pub shcfg: u64,
+    pub alloccfg: u64,
+}
 
 fn override_mem_attr(mtcfg: u64, row: u64, m: u64) -> u64
     ensures { λ r. ⌜ r ≡ pick (eqb mtcfg 1) row m ⌝ }

@@ -1,8 +1,8 @@
--- `attributes::overriding::instruction` meets its contract: by what `forced` answers.
+-- `overrides::instruction` meets its contract: by what `forced` answers.
 -- Assumes nothing.
 use borrow.Author.Needs.{needs}
-use Rattle.attributes.proofs.overriding.instruction.Statement.{statement}
-use Rattle.attributes.proofs.overriding.instruction.Tie as tie
+use Rattle.overrides.proofs.instruction.Statement.{statement}
+use Rattle.overrides.proofs.instruction.Tie as tie
 
 returns : tie.Need-returns
 returns c = rw (c .forced .ensures)
