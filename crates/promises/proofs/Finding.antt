@@ -15,9 +15,9 @@ use Rattle.words.specs.declared.Found.the-variants.{Nothing}
 use Rattle.words.proofs.Search.{Lowest, from-zero, none}
 use Rattle.words.proofs.Truth.{clash, decided}
 use Rattle.control.specs.Control as control
-use Rattle.control.specs.Stores as control-stores
 use Rattle.control.specs.declared.Rest.{Rest}
 use Rattle.control.specs.declared.Rest.the-variants.{Off as Rest·Off, Held as Rest·Held, Empty as Rest·Empty}
+use Rattle.control_stores.specs.Stores as control-stores
 use Rattle.commands.specs.declared.Features.{Features}
 use Rattle.commands.specs.declared.Command.{Command}
 use Rattle.commands.specs.declared.Decoded.{Decoded}

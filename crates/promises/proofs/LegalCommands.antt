@@ -16,8 +16,8 @@ use Rattle.words.specs.Search.{count}
 use Rattle.words.proofs.Truth.{clash, decided}
 use Rattle.words.proofs.Search.{Lowest, from-zero, none, is-none, count-less, count-none-passes, none-pass-count}
 use Rattle.control.specs.Control as control
-use Rattle.control.specs.Stores as control-stores
 use Rattle.control.specs.declared.Standing.the-variants.{Open}
+use Rattle.control_stores.specs.Stores as control-stores
 use Rattle.commands.specs.declared.Features.{Features}
 use Rattle.commands.specs.declared.Command.{Command}
 use Rattle.commands.specs.declared.Decoded.the-variants.{Legal}

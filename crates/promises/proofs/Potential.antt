@@ -11,10 +11,10 @@ use Rattle.words.proofs.Truth.{clash}
 use Rattle.indexes.specs.Indexes as indexes
 use Rattle.indexes.proofs.Laws as indexed
 use Rattle.control.specs.Control as control
-use Rattle.control.specs.Stores as control-stores
 use Rattle.control.proofs.Formed as control-formed
-use Rattle.control.proofs.AfterStores.{consumed-sets, consumed-keeps}
 use Rattle.control.proofs.Openness.{open-waits}
+use Rattle.control_stores.specs.Stores as control-stores
+use Rattle.control_stores.proofs.AfterStores.{consumed-sets, consumed-keeps}
 use Rattle.commands.specs.declared.Features.{Features}
 use Rattle.commands.specs.declared.Command.{Command}
 use Rattle.scopes.proofs.Laws.{scoped}

@@ -8,11 +8,11 @@ use native.Mathlib.Omega.{arith}
 use lib.ListN.{length, set}
 use lib.Seq.{getD-set-same}
 use Rattle.control.specs.Control as control
-use Rattle.control.specs.Stores as control-stores
 use Rattle.control.specs.declared.Rest.{Rest}
 use Rattle.control.specs.declared.Rest.the-variants.{Off as Rest·Off, Held as Rest·Held, Empty as Rest·Empty}
-use Rattle.control.proofs.AfterStores.{raised-keeps, raised-active}
 use Rattle.control.proofs.Openness.{open-enabled, open-quiet}
+use Rattle.control_stores.specs.Stores as control-stores
+use Rattle.control_stores.proofs.AfterStores.{raised-keeps, raised-active}
 use Rattle.commands.specs.declared.Features.{Features}
 use Rattle.image.specs.declared.Checked.{Checked}
 use Rattle.image.specs.declared.Checked.the-variants.{Accepted, Refused as NotAccepted}

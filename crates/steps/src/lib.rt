@@ -56,13 +56,13 @@ pub fn step(kept: &mut [u64], f: Features, d: Decoded, from: usize) -> Stepped
             }
             Found::Nothing => {
                 let w = kept[0];
-                kept[0] = control::consumed(w);
+                kept[0] = control_stores::consumed(w);
                 Stepped::Consumed
             }
         },
         Decoded::Illegal => {
             let w = kept[0];
-            kept[0] = control::raised(w);
+            kept[0] = control_stores::raised(w);
             Stepped::DidRaise
         }
     }

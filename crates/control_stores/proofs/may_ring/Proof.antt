@@ -1,10 +1,10 @@
--- `control::stores::may_ring` meets its contract.
+-- `control_stores::may_ring` meets its contract.
 -- Assumes nothing.
 use Rattle.control.specs.Control.{distance}
-use Rattle.control.specs.Stores.{mayRing}
+use Rattle.control_stores.specs.Stores.{mayRing}
 use borrow.Author.Needs.{needs}
-use Rattle.control.proofs.stores.may_ring.Statement.{statement}
-use Rattle.control.proofs.stores.may_ring.Tie as tie
+use Rattle.control_stores.proofs.may_ring.Statement.{statement}
+use Rattle.control_stores.proofs.may_ring.Tie as tie
 
 returns : tie.Need-returns
 unfolding mayRing distance

@@ -1,9 +1,9 @@
--- `control::stores::rung` meets its contract.
+-- `control_stores::rung` meets its contract.
 -- Assumes nothing.
-use Rattle.control.specs.Stores.{rung}
+use Rattle.control_stores.specs.Stores.{rung}
 use borrow.Author.Needs.{needs}
-use Rattle.control.proofs.stores.rung.Statement.{statement}
-use Rattle.control.proofs.stores.rung.Tie as tie
+use Rattle.control_stores.proofs.rung.Statement.{statement}
+use Rattle.control_stores.proofs.rung.Tie as tie
 
 returns : tie.Need-returns
 unfolding rung

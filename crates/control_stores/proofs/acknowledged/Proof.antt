@@ -1,9 +1,9 @@
--- `control::stores::acknowledged` meets its contract.
+-- `control_stores::acknowledged` meets its contract.
 -- Assumes nothing.
-use Rattle.control.specs.Stores.{acknowledged}
+use Rattle.control_stores.specs.Stores.{acknowledged}
 use borrow.Author.Needs.{needs}
-use Rattle.control.proofs.stores.acknowledged.Statement.{statement}
-use Rattle.control.proofs.stores.acknowledged.Tie as tie
+use Rattle.control_stores.proofs.acknowledged.Statement.{statement}
+use Rattle.control_stores.proofs.acknowledged.Tie as tie
 
 returns : tie.Need-returns
 unfolding acknowledged

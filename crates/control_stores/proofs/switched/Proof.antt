@@ -1,9 +1,9 @@
--- `control::stores::switched` meets its contract.
+-- `control_stores::switched` meets its contract.
 -- Assumes nothing.
-use Rattle.control.specs.Stores.{switched}
+use Rattle.control_stores.specs.Stores.{switched}
 use borrow.Author.Needs.{needs}
-use Rattle.control.proofs.stores.switched.Statement.{statement}
-use Rattle.control.proofs.stores.switched.Tie as tie
+use Rattle.control_stores.proofs.switched.Statement.{statement}
+use Rattle.control_stores.proofs.switched.Tie as tie
 
 returns : tie.Need-returns
 unfolding switched

@@ -1,11 +1,11 @@
 // Document 01, One run: the control word after each single store.
-use crate::places;
-use crate::word::gerror_of;
-use crate::word::log2size_of;
-use crate::word::rd_of;
-use crate::word::wr_of;
+use control::gerror_of;
+use control::log2size_of;
+use control::places;
+use control::rd_of;
+use control::wr_of;
 ghost use mathlib.Core.Path.{_≡_};
-ghost use Rattle.control.specs.Stores.{consumed, raised, mayRing, rung, acknowledged, switched};
+ghost use Rattle.control_stores.specs.Stores.{consumed, raised, mayRing, rung, acknowledged, switched};
 
 pub fn consumed(w: u64) -> u64
     ensures { λ r. ⌜ r ≡ consumed w ⌝ }

@@ -14,9 +14,9 @@ use Rattle.words.proofs.Parts.{apart, keeps, reads-back, part-lt}
 use Rattle.words.proofs.Truth.{left, clash}
 use Rattle.indexes.specs.Indexes as indexes
 use Rattle.indexes.proofs.Laws as indexed
 use Rattle.control.specs.Control.{rdBits, wrBits, errBits, gerrorBits, gerrornBits, cmdqenBits, log2sizeBits, zeroBits, rd, wr, err, gerror, gerrorn, cmdqen, log2size, active, distance, wellFormed}
-use Rattle.control.specs.Stores.{consumed, raised, mayRing, rung, acknowledged, switched}
+use Rattle.control_stores.specs.Stores.{consumed, raised, mayRing, rung, acknowledged, switched}
 use Rattle.control.proofs.Formed.{Formed, formed, is-formed}
 
 -- an index in range fits its part
 index-fits : (w i : ℕ) → Formed w → i < indexes.turn (log2size w) → i < 2 ^ 20

@@ -1,9 +1,9 @@
--- `control::stores::consumed` meets its contract.
+-- `control_stores::consumed` meets its contract.
 -- Assumes nothing.
-use Rattle.control.specs.Stores.{consumed}
+use Rattle.control_stores.specs.Stores.{consumed}
 use borrow.Author.Needs.{needs}
-use Rattle.control.proofs.stores.consumed.Statement.{statement}
-use Rattle.control.proofs.stores.consumed.Tie as tie
+use Rattle.control_stores.proofs.consumed.Statement.{statement}
+use Rattle.control_stores.proofs.consumed.Tie as tie
 
 returns : tie.Need-returns
 unfolding consumed

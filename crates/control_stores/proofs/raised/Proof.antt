@@ -1,9 +1,9 @@
--- `control::stores::raised` meets its contract.
+-- `control_stores::raised` meets its contract.
 -- Assumes nothing.
-use Rattle.control.specs.Stores.{raised}
+use Rattle.control_stores.specs.Stores.{raised}
 use borrow.Author.Needs.{needs}
-use Rattle.control.proofs.stores.raised.Statement.{statement}
-use Rattle.control.proofs.stores.raised.Tie as tie
+use Rattle.control_stores.proofs.raised.Statement.{statement}
+use Rattle.control_stores.proofs.raised.Tie as tie
 
 returns : tie.Need-returns
 unfolding raised
