@@ -1,20 +1,16 @@
-// The control word: its parts, what it lets a run do, and the word after each single store.
-mod places;
-mod stores;
+// The control word: its parts, and what it lets a run do.
+pub mod places;
 mod word;
 
-pub use stores::acknowledged;
-pub use stores::consumed;
-pub use stores::may_ring;
-pub use stores::raised;
-pub use stores::rung;
-pub use stores::switched;
 pub use word::active;
 pub use word::fields_of;
+pub use word::gerror_of;
 pub use word::log2size_of;
+pub use word::rd_of;
 pub use word::slot_of;
 pub use word::standing_of;
 pub use word::well_formed;
+pub use word::wr_of;
 
 // Why a run does nothing more.
 pub enum Rest {

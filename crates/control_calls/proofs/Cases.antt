@@ -7,7 +7,7 @@ use Prim.Native.Nat.{ℕ, _<_}
 use native.Mathlib.Omega.{arith}
 use lib.ListN.{length}
 use Rattle.control.specs.Control.{active}
-use Rattle.control.specs.Stores.{mayRing, rung, acknowledged, switched}
+use Rattle.control_stores.specs.Stores.{mayRing, rung, acknowledged, switched}
 use Rattle.image.specs.declared.Refusal.{Refusal}
 use Rattle.image.specs.declared.Checked.the-variants.{Accepted, Refused}
 use Rattle.image.specs.Image.{controlOf, check}

@@ -13,9 +13,9 @@ use Rattle.words.specs.Choice.{pick}
 use Rattle.words.specs.Ranges.{Range, get}
 use Rattle.words.proofs.Parts.{apart}
 use Rattle.control.specs.Control as control
-use Rattle.control.specs.Stores.{mayRing, rung, acknowledged, switched}
 use Rattle.control.proofs.Formed.{Formed, formed, is-formed}
-use Rattle.control.proofs.AfterStores.{rung-keeps, rung-sets, rung-formed, acknowledged-keeps, acknowledged-sets, acknowledged-quiet, acknowledged-formed, switched-keeps, switched-sets, switched-formed}
+use Rattle.control_stores.specs.Stores.{mayRing, rung, acknowledged, switched}
+use Rattle.control_stores.proofs.AfterStores.{rung-keeps, rung-sets, rung-formed, acknowledged-keeps, acknowledged-sets, acknowledged-quiet, acknowledged-formed, switched-keeps, switched-sets, switched-formed}
 use Rattle.image.specs.declared.Refusal.{Refusal}
 use Rattle.image.specs.declared.Checked.{Checked}
 use Rattle.image.specs.declared.Checked.the-variants.{Accepted, Refused}

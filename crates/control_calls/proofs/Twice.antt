@@ -14,9 +14,9 @@ use Rattle.words.specs.Parts.{put}
 use Rattle.words.proofs.Truth.{left, and-true}
 use Rattle.indexes.specs.Indexes as indexes
 use Rattle.control.specs.Control.{rdBits, log2sizeBits, rd, log2size, distance}
-use Rattle.control.specs.Stores.{mayRing, rung, switched}
 use Rattle.control.proofs.Formed.{Formed}
-use Rattle.control.proofs.AfterStores.{rung-keeps, rung-sets}
+use Rattle.control_stores.specs.Stores.{mayRing, rung, switched}
+use Rattle.control_stores.proofs.AfterStores.{rung-keeps, rung-sets}
 
 -- `put`, by the width d of the part and the bits l below it
 module _ (d l v w : ℕ) where

@@ -7,7 +7,7 @@ use Prim.Native.Nat.{ℕ}
 use lib.ListN.{set}
 use Rattle.words.specs.Choice.{pick}
 use Rattle.control.specs.Control.{active}
-use Rattle.control.specs.Stores.{mayRing, rung, acknowledged, switched}
+use Rattle.control_stores.specs.Stores.{mayRing, rung, acknowledged, switched}
 use Rattle.image.specs.declared.Refusal.{Refusal}
 use Rattle.image.specs.declared.Checked.{Checked}
 use Rattle.image.specs.declared.Checked.the-variants.{Accepted, Refused}

@@ -38,10 +38,10 @@ pub fn doorbell(kept: &mut [u64], wr: u64) -> DoorbellAnswer
         Checked::Refused(why) => DoorbellAnswer::Refused(DoorbellRefusal::Image(why)),
         Checked::Accepted(_) => {
             let w = kept[0];
-            if !control::may_ring(w, wr) {
+            if !control_stores::may_ring(w, wr) {
                 return DoorbellAnswer::Refused(DoorbellRefusal::BadIndex);
             }
-            kept[0] = control::rung(w, wr);
+            kept[0] = control_stores::rung(w, wr);
             DoorbellAnswer::Rung
         }
     }
@@ -58,7 +58,7 @@ pub fn acknowledge(kept: &mut [u64]) -> AcknowledgeAnswer
             if !control::active(w) {
                 return AcknowledgeAnswer::Refused(AcknowledgeRefusal::NoError);
             }
-            kept[0] = control::acknowledged(w);
+            kept[0] = control_stores::acknowledged(w);
             AcknowledgeAnswer::Acknowledged
         }
     }
@@ -72,7 +72,7 @@ pub fn enable(kept: &mut [u64], on: bool) -> EnableAnswer
         Checked::Refused(why) => EnableAnswer::Refused(why),
         Checked::Accepted(_) => {
             let w = kept[0];
-            kept[0] = control::switched(w, on);
+            kept[0] = control_stores::switched(w, on);
             EnableAnswer::Switched
         }
     }

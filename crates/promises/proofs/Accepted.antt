@@ -5,13 +5,13 @@ use mathlib.Core.List.{List}
 use Prim.Native.Nat.{ℕ}
 use lib.ListN.{length}
 use Rattle.control.proofs.Formed as control-formed
-use Rattle.control.proofs.AfterStores.{consumed-formed, raised-formed}
 use Rattle.control.proofs.Openness.{open-waits}
+use Rattle.control_stores.proofs.AfterStores.{consumed-formed, raised-formed}
 use Rattle.commands.specs.declared.Features.{Features}
 use Rattle.image.specs.Image.{rowsIn, controlOf}
 use Rattle.image.proofs.Checks.{Accepts, rows-are}
 use Rattle.image.proofs.AfterStores.{control-stored, row-cleared}
-use Rattle.runs.specs.Due.{What}
+use Rattle.steps.specs.Due.{What}
 use Rattle.runs.specs.Running.{Next, stores, dueIn, run}
 use Rattle.promises.proofs.Cases.{Case, removes, consumes, raises, IsDue, is-due}
 use Rattle.promises.proofs.Sums.{run-keeps}

@@ -6,7 +6,7 @@ use Rattle.words.specs.Parts.{part, isSet, put, joined}
 use Rattle.words.specs.Ranges.{setOnly}
 use Rattle.indexes.specs.Indexes as indexes
 use Rattle.control.specs.Control as control
-use Rattle.control.specs.Stores as stores
+use Rattle.control_stores.specs.Stores as stores
 use Rattle.combining.specs.Combining as combining
 use Rattle.commands.specs.Decoding as decoding
 use Rattle.scopes.specs.Scopes as scopes

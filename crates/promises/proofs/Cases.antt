@@ -9,9 +9,9 @@ use Rattle.words.specs.declared.Found.{Found}
 use Rattle.words.specs.declared.Found.the-variants.{At, Nothing}
 use Rattle.words.proofs.Search.{Lowest}
 use Rattle.control.specs.Control as control
-use Rattle.control.specs.Stores as control-stores
 use Rattle.control.specs.declared.Standing.{Standing}
 use Rattle.control.specs.declared.Standing.the-variants.{Resting, Open}
+use Rattle.control_stores.specs.Stores as control-stores
 use Rattle.commands.specs.declared.Features.{Features}
 use Rattle.commands.specs.declared.Command.{Command}
 use Rattle.commands.specs.declared.Decoded.{Decoded}
@@ -19,9 +19,9 @@ use Rattle.commands.specs.declared.Decoded.the-variants.{Legal, Illegal}
 use Rattle.commands.specs.Decoding.{syncsOf}
 use Rattle.image.specs.Image.{rowsIn, controlOf}
 use Rattle.image.proofs.AfterStores.{cleared}
-use Rattle.runs.specs.Due.{What, Remove, Consume, Raise, Due, Rests, Stores, scopedAt, scan, byScan, dueFor, atRd, gate, due}
+use Rattle.steps.specs.Due.{What, Remove, Consume, Raise, Due, Rests, Stores, scopedAt, scan, byScan, dueFor, atRd, gate, due}
+use Rattle.steps.proofs.Scans.{lowest-scoped}
 use Rattle.runs.specs.Running.{Next, rests, stores, nextOf, dueIn}
-use Rattle.runs.proofs.Scans.{lowest-scoped}
 
 -- the store is one of three: the lowest row in scope of a legal command, the command itself once there is none, or the error
 pub data Case (f : Features) (queue m : List ℕ) (w : What) (m′ : List ℕ) : Type 0 where

@@ -15,9 +15,9 @@ use Rattle.words.specs.declared.Found.the-variants.{Nothing}
 use Rattle.words.proofs.Search.{Lowest, from-zero, none}
 use Rattle.words.proofs.Truth.{clash, decided}
 use Rattle.control.specs.Control as control
-use Rattle.control.specs.Stores as control-stores
 use Rattle.control.specs.declared.Rest.{Rest}
 use Rattle.control.specs.declared.Rest.the-variants.{Off as Rest·Off, Held as Rest·Held, Empty as Rest·Empty}
+use Rattle.control_stores.specs.Stores as control-stores
 use Rattle.commands.specs.declared.Features.{Features}
 use Rattle.commands.specs.declared.Command.{Command}
 use Rattle.commands.specs.declared.Decoded.{Decoded}
@@ -29,11 +29,11 @@ use Rattle.rows.specs.Rows.{isEmpty}
 use Rattle.image.specs.Image.{rowsIn, controlOf, rowAt}
 use Rattle.image.proofs.Checks.{Accepts, rows-are}
 use Rattle.image.proofs.AfterStores.{cleared, cleared-control, cleared-other, row-kept, InRow}
+use Rattle.steps.specs.Due.{What, Remove, Consume, Raise, scopedAt, scan, atRd}
+use Rattle.steps.proofs.Scans.{gone as gone-now, others as others-scoped}
 use Rattle.runs.specs.declared.End.{End}
 use Rattle.runs.specs.declared.End.the-variants.{Off, Held, Empty, Raised, Cut}
-use Rattle.runs.specs.Due.{What, Remove, Consume, Raise, scopedAt, scan, atRd}
 use Rattle.runs.specs.Running.{Out, Next, rests, stores, rested, plus, last, next, runBy, dueIn, run, endOf}
-use Rattle.runs.proofs.Scans.{gone as gone-now, others as others-scoped}
 use Rattle.promises.specs.Found.{advanced, commandAt, closing, WasInScope, Found}
 use Rattle.promises.proofs.Cases.{Case, removes, consumes, raises, IsDue, is-due}
 use Rattle.promises.proofs.Accepted.{store-accepted}

@@ -12,17 +12,17 @@ use lib.ListN.{length, set}
 use lib.Seq.{getD-set-same}
 use borrow.Author.Tests.{eq-eqb, ne-eqb}
 use Rattle.control.specs.Control as control
-use Rattle.control.specs.Stores as control-stores
 use Rattle.control.specs.declared.Rest.the-variants.{Off as Rest·Off, Held as Rest·Held}
 use Rattle.control.specs.declared.Standing.the-variants.{Resting, Open}
-use Rattle.control.proofs.AfterStores.{raised-keeps, raised-active, acknowledged-keeps, acknowledged-quiet, rung-keeps, switched-keeps, same-active}
 use Rattle.control.proofs.Openness.{open-enabled, open-quiet, open-waits}
+use Rattle.control_stores.specs.Stores as control-stores
+use Rattle.control_stores.proofs.AfterStores.{raised-keeps, raised-active, acknowledged-keeps, acknowledged-quiet, rung-keeps, switched-keeps, same-active}
 use Rattle.commands.specs.declared.Features.{Features}
 use Rattle.commands.specs.declared.Decoded.the-variants.{Illegal}
 use Rattle.commands.specs.Decoding.{decodeAt}
 use Rattle.image.specs.Image.{controlOf}
+use Rattle.steps.specs.Due.{Raise, dueFor, atRd, due}
 use Rattle.runs.specs.declared.End.the-variants.{Off, Held, Raised, Cut}
-use Rattle.runs.specs.Due.{Raise, dueFor, atRd, due}
 use Rattle.runs.specs.Running.{rests, stores, rested, plus, runBy, dueIn, run}
 use Rattle.runs.proofs.Turns.{run-rests, due-rests}
 

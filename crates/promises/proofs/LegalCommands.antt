@@ -16,8 +16,8 @@ use Rattle.words.specs.Search.{count}
 use Rattle.words.proofs.Truth.{clash, decided}
 use Rattle.words.proofs.Search.{Lowest, from-zero, none, is-none, count-less, count-none-passes, none-pass-count}
 use Rattle.control.specs.Control as control
-use Rattle.control.specs.Stores as control-stores
 use Rattle.control.specs.declared.Standing.the-variants.{Open}
+use Rattle.control_stores.specs.Stores as control-stores
 use Rattle.commands.specs.declared.Features.{Features}
 use Rattle.commands.specs.declared.Command.{Command}
 use Rattle.commands.specs.declared.Decoded.the-variants.{Legal}
@@ -25,9 +25,9 @@ use Rattle.commands.specs.Decoding.{decodeAt, syncsOf}
 use Rattle.image.specs.Image.{rowsIn, controlOf}
 use Rattle.image.proofs.Checks.{Accepts, rows-are}
 use Rattle.image.proofs.AfterStores.{cleared, cleared-control, row-cleared}
-use Rattle.runs.specs.Due.{Remove, Consume, scopedAt, scan, dueFor, atRd, due}
+use Rattle.steps.specs.Due.{Remove, Consume, scopedAt, scan, dueFor, atRd, due}
+use Rattle.steps.proofs.Scans.{lowest-scoped, gone as gone-now, others as others-scoped}
 use Rattle.runs.specs.Running.{stores, plus, runBy, dueIn, run}
-use Rattle.runs.proofs.Scans.{lowest-scoped, gone as gone-now, others as others-scoped}
 use Rattle.runs.proofs.Turns.{plus-plus}
 use Rattle.promises.specs.Swept.{Swept, Exact}
 

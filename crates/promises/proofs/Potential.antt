@@ -11,18 +11,18 @@ use Rattle.words.proofs.Truth.{clash}
 use Rattle.indexes.specs.Indexes as indexes
 use Rattle.indexes.proofs.Laws as indexed
 use Rattle.control.specs.Control as control
-use Rattle.control.specs.Stores as control-stores
 use Rattle.control.proofs.Formed as control-formed
-use Rattle.control.proofs.AfterStores.{consumed-sets, consumed-keeps}
 use Rattle.control.proofs.Openness.{open-waits}
+use Rattle.control_stores.specs.Stores as control-stores
+use Rattle.control_stores.proofs.AfterStores.{consumed-sets, consumed-keeps}
 use Rattle.commands.specs.declared.Features.{Features}
 use Rattle.commands.specs.declared.Command.{Command}
 use Rattle.scopes.proofs.Laws.{scoped}
 use Rattle.image.specs.Image.{rowsIn, controlOf, rowAt, isUsed, usedRows}
 use Rattle.image.proofs.Checks.{Accepts, rows-are}
 use Rattle.image.proofs.AfterStores.{cleared, cleared-control, used-kept, used-cleared}
+use Rattle.steps.specs.Due.{What, Remove, Consume, Raise, scopedAt}
 use Rattle.runs.specs.declared.End.the-variants.{Cut}
-use Rattle.runs.specs.Due.{What, Remove, Consume, Raise, scopedAt}
 use Rattle.runs.specs.Running.{Out, Next, rests, stores, rested, plus, last, next, runBy, dueIn, run}
 use Rattle.promises.specs.Sums.{removedBy}
 use Rattle.promises.proofs.Cases.{Case, removes, consumes, raises, IsDue, is-due}

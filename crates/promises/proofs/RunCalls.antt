@@ -8,19 +8,19 @@ use native.Mathlib.Omega.{arith}
 use lib.ListN.{length, set}
 use lib.Seq.{getD-set-same}
 use Rattle.control.specs.Control as control
-use Rattle.control.specs.Stores as control-stores
 use Rattle.control.specs.declared.Rest.{Rest}
 use Rattle.control.specs.declared.Rest.the-variants.{Off as Rest·Off, Held as Rest·Held, Empty as Rest·Empty}
-use Rattle.control.proofs.AfterStores.{raised-keeps, raised-active}
 use Rattle.control.proofs.Openness.{open-enabled, open-quiet}
+use Rattle.control_stores.specs.Stores as control-stores
+use Rattle.control_stores.proofs.AfterStores.{raised-keeps, raised-active}
 use Rattle.commands.specs.declared.Features.{Features}
 use Rattle.image.specs.declared.Checked.{Checked}
 use Rattle.image.specs.declared.Checked.the-variants.{Accepted, Refused as NotAccepted}
 use Rattle.image.specs.Image.{check, controlOf}
 use Rattle.image.proofs.Checks.{Accepts, accepts}
+use Rattle.steps.specs.Due.{What, Remove, Consume, Raise}
 use Rattle.runs.specs.declared.End.the-variants.{Held, Raised}
 use Rattle.runs.specs.declared.RunAnswer.{RunAnswer}
-use Rattle.runs.specs.Due.{What, Remove, Consume, Raise}
 use Rattle.runs.specs.Running.{Out, Next, rests, stores, rested, last, next, runBy, dueIn, run, endOf}
 use Rattle.runs.specs.Call.{queueGood, byCheck, call, Calls}
 use Rattle.promises.proofs.Accepted.{run-accepted, store-accepted}

@@ -6,9 +6,9 @@ use mathlib.Core.List.{List, [], _∷_}
 use lib.Dec.{eqb}
 use Rattle.words.specs.Choice.{pick}
 use Rattle.control.specs.Control as control
-use Rattle.control.specs.Stores as stores
 use Rattle.control.specs.declared.Standing.{Standing}
 use Rattle.control.specs.declared.Standing.the-variants.{Resting, Open}
+use Rattle.control_stores.specs.Stores as stores
 use Rattle.combining.specs.Combining.{combine}
 use Rattle.rows.specs.declared.Row.{Row}
 use Rattle.commands.specs.declared.Features.{Features}

@@ -7,16 +7,16 @@ use mathlib.Core.Logic.{_⊎_}
 use Prim.Native.Nat.{ℕ, zero, suc, _+_, _*_, _≤_, _<_}
 use lib.ListN.{length, getD}
 use Rattle.control.specs.Control as control
-use Rattle.control.specs.Stores as control-stores
+use Rattle.control_stores.specs.Stores as control-stores
 use Rattle.commands.specs.declared.Features.{Features}
 use Rattle.commands.specs.declared.Command.{Command}
 use Rattle.commands.specs.declared.Decoded.{Decoded}
 use Rattle.commands.specs.declared.Decoded.the-variants.{Legal}
 use Rattle.commands.specs.Decoding.{decodeAt}
 use Rattle.image.specs.Image.{controlOf}
+use Rattle.steps.specs.Due.{scopedAt}
 use Rattle.runs.specs.declared.End.{End}
 use Rattle.runs.specs.declared.End.the-variants.{Off, Held, Empty, Raised, Cut}
-use Rattle.runs.specs.Due.{scopedAt}
 
 -- the control word after t commands are consumed
 unfoldable pub advanced : ℕ → ℕ → ℕ

@@ -6,13 +6,13 @@ use mathlib.Core.List.{List}
 use Prim.Native.Nat.{ℕ, suc, _+_, _*_, _<_}
 use lib.ListN.{length, getD}
 use Rattle.words.specs.Search.{count}
-use Rattle.control.specs.Stores as control-stores
+use Rattle.control_stores.specs.Stores as control-stores
 use Rattle.commands.specs.declared.Features.{Features}
 use Rattle.commands.specs.declared.Command.{Command}
 use Rattle.commands.specs.declared.Decoded.the-variants.{Legal}
 use Rattle.commands.specs.Decoding.{syncsOf}
 use Rattle.image.specs.Image.{controlOf}
-use Rattle.runs.specs.Due.{scopedAt}
+use Rattle.steps.specs.Due.{scopedAt}
 use Rattle.runs.specs.Running.{plus, run}
 
 -- the rows in scope have word 0 zero, RD is one on, and every other word is as it was

@@ -18,8 +18,7 @@ use Rattle.image.proofs.Checks.{Accepts, says, rows-are}
 use Rattle.runs.specs.declared.Ran.{Ran}
 use Rattle.runs.specs.declared.RunRefusal.the-variants.{Image, BadQueue}
 use Rattle.runs.specs.declared.RunAnswer.the-variants.{Refused, Done}
-use Rattle.runs.specs.Due.{Fit}
-use Rattle.runs.specs.Running.{Does}
+use Rattle.runs.specs.Running.{Does, Fit}
 use Rattle.runs.specs.Call.{queueGood, call, Calls}
 
 module _ (f : Features) (queue : List ℕ) (k : ℕ) (m : List ℕ) where

@@ -1,4 +1,2 @@
-pub mod Scans
-pub mod Asked
 pub mod Turns
 pub mod Calling

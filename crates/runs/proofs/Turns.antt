@@ -9,27 +9,30 @@ use lib.ListN.{length, set, length-set}
 use lib.Seq.{getD-set-same}
 use mir.Val.{Fits}
 use mir.Syntax.{w64}
+use Rattle.words.specs.declared.Found.{Found}
+use Rattle.words.specs.declared.Found.the-variants.{At, Nothing}
 use Rattle.control.specs.Control as control
-use Rattle.control.specs.Stores as control-stores
-use Rattle.control.proofs.AfterStores.{consumed-keeps}
 use Rattle.control.specs.declared.Rest.{Rest}
 use Rattle.control.specs.declared.Standing.{Standing}
 use Rattle.control.specs.declared.Standing.the-variants.{Resting, Open}
+use Rattle.control_stores.specs.Stores as control-stores
+use Rattle.control_stores.proofs.AfterStores.{consumed-keeps}
 use Rattle.commands.specs.declared.Features.{Features}
+use Rattle.commands.specs.declared.Command.{Command}
 use Rattle.commands.specs.declared.Decoded.{Decoded}
 use Rattle.commands.specs.declared.Decoded.the-variants.{Legal, Illegal}
 use Rattle.commands.specs.Decoding.{decodeAt, syncsOf}
 use Rattle.image.specs.Image.{maxRows, rowsIn, controlOf}
 use Rattle.image.proofs.AfterStores.{cleared, cleared-control}
+use Rattle.steps.specs.declared.Stepped.{Stepped}
+use Rattle.steps.specs.declared.Stepped.the-variants.{Removed, Consumed, DidRaise}
+use Rattle.steps.specs.Due.{Due, Rests, Stores, scan, byScan, noneBelow, dueFor, due, Ready, Made}
+use Rattle.steps.proofs.Scans.{lowest-scoped, goes-on}
+use Rattle.steps.proofs.Asked.{Removes, due-removes}
 use Rattle.runs.specs.declared.End.{End}
 use Rattle.runs.specs.declared.End.the-variants.{Raised, Cut}
-use Rattle.runs.specs.declared.Stepped.{Stepped}
-use Rattle.runs.specs.declared.Stepped.the-variants.{Removed, Consumed, DidRaise}
 use Rattle.runs.specs.declared.Ran.{Ran}
-use Rattle.runs.specs.Due.{Due, Rests, Stores, scan, noneBelow, dueFor, due, Ready, Made, Fit}
-use Rattle.runs.specs.Running.{Out, Next, rests, rested, plus, last, next, runBy, nextOf, dueIn, run, endOf, Does}
-use Rattle.runs.proofs.Scans.{lowest-scoped, goes-on}
-use Rattle.runs.proofs.Asked.{Removes, due-removes, due-cuts}
+use Rattle.runs.specs.Running.{Out, Next, rests, rested, plus, last, next, runBy, nextOf, dueIn, run, endOf, Does, Fit}
 
 module _ {M : Type 0} where
   pub plus-plus : (c s r y c₁ s₁ r₁ y₁ c₂ s₂ r₂ y₂ : ℕ) (o : Out M) → c + c₁ ≡ c₂ → s + s₁ ≡ s₂ → r + r₁ ≡ r₂ → y + y₁ ≡ y₂
@@ -67,6 +70,16 @@ module _ {M : Type 0} (f : M → Next M) (m : M) where
 pub due-rests : (f : Features) (queue m : List ℕ) (e : Rest) → control.standing (controlOf m) ≡ Resting e → dueIn f queue m ≡ rests e
 unfolding due
 due-rests f queue m e h = rw h
+
+-- something is always due for a command
+cut-scan : (c : Command) (w : ℕ) (x : Found) (m : List ℕ) → last (nextOf (byScan c w x) m) m ≡ rested Cut m
+cut-scan c w (At i) m = refl
+cut-scan c w Nothing m = refl
+
+pub due-cuts : (f : Features) (d : Decoded) (m : List ℕ) → last (nextOf (dueFor f d m) m) m ≡ rested Cut m
+unfolding dueFor
+due-cuts f (Legal c) m = cut-scan c (controlOf m) (scan f c m (rowsIn m) 0) m
+due-cuts f Illegal m = refl
 
 -- what every turn keeps: lengths, and that the counts fit
 pub record Kept (A n : ℕ) (queue m : List ℕ) (left c s r y : ℕ) : Type 0 where

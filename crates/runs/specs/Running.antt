@@ -2,15 +2,17 @@
 -- Assumes nothing.
 use mathlib.Core.Path.{_≡_}
 use mathlib.Core.List.{List}
-use Prim.Native.Nat.{ℕ, zero, suc, _+_}
-use lib.ListN.{set}
+use Prim.Native.Nat.{ℕ, zero, suc, _+_, _*_, _^_, _≤_}
+use lib.ListN.{length, set}
+use Rattle.control.specs.Control as control
 use Rattle.control.specs.declared.Rest.{Rest}
 use Rattle.control.specs.declared.Rest.the-variants.{Off as Rest·Off, Held as Rest·Held, Empty as Rest·Empty}
 use Rattle.commands.specs.declared.Features.{Features}
+use Rattle.image.specs.Image.{maxRows, rowsIn, controlOf}
+use Rattle.steps.specs.Due.{What, Remove, Consume, Raise, Due, Rests, Stores, due}
 use Rattle.runs.specs.declared.End.{End}
 use Rattle.runs.specs.declared.End.the-variants.{Off, Held, Empty, Raised, Cut}
 use Rattle.runs.specs.declared.Ran.{Ran}
-use Rattle.runs.specs.Due.{What, Remove, Consume, Raise, Due, Rests, Stores, due}
 
 abbrev pub endOf : Rest → End
 endOf Rest·Off = Off
@@ -81,3 +83,9 @@ run f queue k m = runBy (dueIn f queue) k m
 pub record Does (f : Features) (queue : List ℕ) (k : ℕ) (m m′ : List ℕ) (r : Ran) : Type 0 where
   pub answers : r ≡ run f queue k m .ran
   pub leaves : m′ ≡ run f queue k m .memory
+
+-- what a run needs of an accepted image and its queue
+pub record Fit (queue m : List ℕ) : Type 0 where
+  pub room : 4 * rowsIn m + 1 ≤ length m
+  pub few : rowsIn m ≤ maxRows
+  pub slots : length queue ≡ 16 * 2 ^ control.log2size (controlOf m)

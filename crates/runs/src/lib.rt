@@ -1,6 +1,5 @@
 // One run over the command queue.
 mod running;
-mod steps;
 
 use commands::Features;
 use image::Checked;
@@ -23,13 +22,6 @@ pub struct Ran {
     pub stores: u64,
     pub removed: u64,
     pub syncs: u64,
-}
-
-// The one store that a step made.
-pub enum Stepped {
-    Removed(usize),
-    Consumed,
-    DidRaise,
 }
 
 // Why a run is refused: the image, or the queue's length.

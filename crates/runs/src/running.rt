@@ -1,20 +1,18 @@
 // Document 01, One run: the commands that wait, and the rows of each.
 use crate::End;
 use crate::Ran;
-use crate::Stepped;
-use crate::steps::step;
 use commands::Decoded;
 use commands::Features;
 use control::Rest;
 use control::Standing;
+use steps::Stepped;
 ghost use mathlib.Core.Path.{_≡_};
 ghost use Prim.Native.Nat.{_*_, _^_};
 ghost use lib.ListN.{length};
 ghost use lib.Dec.{eqb};
 ghost use Rattle.control.specs.Control.{log2size, slot};
 ghost use Rattle.commands.specs.Decoding.{decodeAt};
-ghost use Rattle.runs.specs.Due.{Fit};
-ghost use Rattle.runs.specs.Running.{endOf, Does};
+ghost use Rattle.runs.specs.Running.{endOf, Does, Fit};
 
 // 16 bytes for each slot.
 pub fn queue_good(queue: &[u8], w: u64) -> bool
@@ -66,7 +64,7 @@ pub fn go(kept: &mut [u64], queue: &[u8], f: Features, allowance: u64) -> Ran
             }
             left -= 1;
             stores += 1;
-            match step(&mut *kept, f, d, from) {
+            match steps::step(&mut *kept, f, d, from) {
                 Stepped::Removed(i) => {
                     removed += 1;
                     from = i + 1;

@@ -11,7 +11,7 @@ use Rattle.words.specs.Choice.{pick}
 use Rattle.words.proofs.Truth.{left, right}
 use Rattle.attributes.specs.declared.Attributes.{Attributes}
 use Rattle.attributes.specs.Formats.{nsh, osh, ish, memAttrFormed, shFormed, hintsFormed, wellFormed}
-use Rattle.attributes.specs.Overrides as overrides
+use Rattle.overrides.specs.Overrides as overrides
 use Rattle.rows.specs.declared.Row.{Row}
 use Rattle.rows.specs.declared.Parts.{Parts}
 use Rattle.rows.specs.Rows.{vmid, asid, config, newMemAttr, partsOf, overridesOf, attributesOf}

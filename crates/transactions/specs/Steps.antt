@@ -7,8 +7,8 @@ use Prim.Native.Nat.{ℕ, _+_, _-_, _^_, _≤_, _<_}
 use lib.Dec.{eqb}
 use Rattle.words.specs.Choice.{pick}
 use Rattle.attributes.specs.Formats as attributes
-use Rattle.attributes.specs.Overrides as overrides
 use Rattle.attributes.specs.Settling.{settled}
+use Rattle.overrides.specs.Overrides as overrides
 use Rattle.combining.specs.Combining.{combined}
 use Rattle.rows.specs.declared.Row.{Row}
 use Rattle.rows.specs.Rows.{vmid, asid, config, instcfg, privcfg, overridesOf, attributesOf}

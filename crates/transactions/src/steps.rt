@@ -36,7 +36,7 @@ fn overridden(ste: Row, t: Transaction) -> Access
 {
     Access {
         address: t.address,
-        attributes: attributes::overridden(rows::overrides_of(ste), t.attributes),
+        attributes: overrides::overridden(rows::overrides_of(ste), t.attributes),
     }
 }
 
@@ -86,8 +86,8 @@ fn output(ste: Row, t: Transaction, a: Access) -> Output
     Output {
         address: a.address,
         attributes: attributes::settled(a.attributes),
-        instruction: attributes::instruction(p.instcfg, t.write, t.instruction),
-        privileged: attributes::privileged(p.privcfg, t.privileged),
+        instruction: overrides::instruction(p.instcfg, t.write, t.instruction),
+        privileged: overrides::privileged(p.privcfg, t.privileged),
     }
 }
 
