@@ -11,9 +11,9 @@ use Rattle.words.proofs.Parts.{part-lt, put-lt}
 use Rattle.words.proofs.Truth.{left, right, and-true, clash}
 use Rattle.control.specs.declared.Fields.{Fields}
 use Rattle.control.specs.Control.{rdBits, wrBits, errBits, gerrorBits, cmdqenBits, log2sizeBits, zeroBits, gerror, gerrorn, fieldsOf, active, wellFormed}
-use Rattle.control.specs.Stores.{acknowledged}
+use Rattle.control_stores.specs.Stores.{acknowledged}
 use Rattle.control.proofs.Formed as control
-use Rattle.control.proofs.AfterStores.{acknowledged-keeps, acknowledged-sets, acknowledged-quiet, acknowledged-formed}
+use Rattle.control_stores.proofs.AfterStores.{acknowledged-keeps, acknowledged-sets, acknowledged-quiet, acknowledged-formed}
 use Rattle.registers.specs.declared.RegistersRefusal.{RegistersRefusal}
 use Rattle.registers.specs.declared.RegistersRefusal.the-variants.{IllFormed, NoError}
 use Rattle.registers.specs.declared.RegistersAnswer.{RegistersAnswer}
