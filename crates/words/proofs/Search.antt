@@ -98,6 +98,24 @@ module _ (p : ℕ → Bool) (n : ℕ) where
 pub from-zero : (p : ℕ → Bool) (n : ℕ) → lowest p n 0 ≡ lowest p (n - 0) 0
 from-zero p n = ap (λ (k : ℕ). lowest p k 0) (let e : n ≡ n - 0 = omega arith in e)
 
+-- a search under way: what it is to find, the rest from i on finds
+pub record Searching (p : ℕ → Bool) (n : ℕ) (target : Found) (i : ℕ) : Type 0 where
+  pub within : i ≤ n
+  pub same : target ≡ lowest p (n - i) i
+
+pub from-start : (p : ℕ → Bool) (n : ℕ) → Searching p n (lowest p n 0) 0
+from-start p n = record { within = omega arith; same = from-zero p n }
+
+module _ {p : ℕ → Bool} {n : ℕ} {target : Found} {i : ℕ} (s : Searching p n target i) where
+  pub finds : i < n → p i ≡ true → At i ≡ target
+  finds h e = sym (s .same ∙ here p n i h e)
+
+  pub passes : i < n → p i ≡ false → Searching p n target (i + 1)
+  passes h e = record { within = omega arith; same = s .same ∙ later p n i h e }
+
+  pub finds-none : n ≤ i → Nothing ≡ target
+  finds-none h = sym (s .same ∙ nowhere p n i h)
+
 -- a search passes over a beginning where none passes
 pub passes-over : (p : ℕ → Bool) (n k : ℕ) → k ≤ n → ((j : ℕ) → j < k → p j ≡ false) → lowest p n 0 ≡ lowest p (n - k) k
 passes-over p n zero h f = from-zero p n

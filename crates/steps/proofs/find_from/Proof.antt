@@ -1,25 +1,17 @@
 -- `steps::find_from` meets its contract: what the whole scan finds, the rest of it finds; an idle command has no row in scope.
 -- Assumes nothing.
-use mathlib.Core.Path.{_≡_, refl, sym, _∙_}
-use mathlib.Core.List.{List}
-use Prim.Native.Nat.{ℕ, _-_, _≤_}
-use native.Mathlib.Omega.{arith}
+use mathlib.Core.Path.{refl, sym, _∙_}
+use Prim.Native.Nat.{_-_}
 use borrow.Author.Needs.{needs}
-use Rattle.words.proofs.Search.{here, later, nowhere}
-use Rattle.commands.specs.declared.Features.{Features}
-use Rattle.commands.specs.declared.Command.{Command}
+use Rattle.words.proofs.Search.{Searching, finds, passes, finds-none}
 use Rattle.image.specs.Image.{rowsIn}
-use Rattle.steps.specs.Due.{scan}
+use Rattle.steps.specs.Due.{scopedAt, scan}
 use Rattle.steps.proofs.Scans.{idle-finds-nothing}
 use Rattle.steps.proofs.find_from.Statement.{statement}
 use Rattle.steps.proofs.find_from.Tie as tie
 
-pub record Rest (kept : List ℕ) (f : Features) (c : Command) (from i : ℕ) : Type 0 where
-  pub within : i ≤ rowsIn kept
-  pub same : scan f c kept (rowsIn kept - from) from ≡ scan f c kept (rowsIn kept - i) i
-
 abbrev Inv-loop : tie.InvT-loop
-Inv-loop kept f c from rows i₀ i = Rest kept f c from i
+Inv-loop kept f c from rows i₀ i = Searching (scopedAt f c kept) (rowsIn kept) (scan f c kept (rowsIn kept - from) from) i
 
 abbrev μ-loop : tie.MeasureT-loop
 μ-loop kept f c from rows i₀ i = rowsIn kept - i
@@ -35,20 +27,13 @@ loop-holds : tie.Need-loop-holds Inv-loop μ-loop
 loop-holds c = record { within = c .before .before .before .pre .1; same = refl }
 
 returns-2 : tie.Need-returns-2 Inv-loop μ-loop
-returns-2 c =
-    let at = c .before .before .before in
-    sym (at .loop .inv .same ∙ here _ _ (at .loop .i) (c .before .before .loop-test .taken) (sym (c .before .scoped-at .ensures) ∙ c .if2 .taken))
+returns-2 c = finds (c .before .before .before .loop .inv) (c .before .before .loop-test .taken) (sym (c .before .scoped-at .ensures) ∙ c .if2 .taken)
 
 loop-again : tie.Need-loop-again Inv-loop μ-loop
-loop-again c =
-    let at = c .before .before .before in
-    record {
-      within = omega arith;
-      same = at .loop .inv .same ∙ later _ _ (at .loop .i) (c .before .before .loop-test .taken) (sym (c .before .scoped-at .ensures) ∙ c .if2 .left);
-    }
+loop-again c = passes (c .before .before .before .loop .inv) (c .before .before .loop-test .taken) (sym (c .before .scoped-at .ensures) ∙ c .if2 .left)
 
 returns-3 : tie.Need-returns-3 Inv-loop μ-loop
-returns-3 c = sym (c .before .loop .inv .same ∙ nowhere _ _ (c .before .loop .i) (c .loop-test .left))
+returns-3 c = finds-none (c .before .loop .inv) (c .loop-test .left)
 
 pub find-from-spec : {M : Type 1} → statement M
 find-from-spec =
