@@ -22,7 +22,8 @@ LEFT = 'it is not proved that'
 
 def reason(log):
     """Why a log does not show a failed fact, or None where it does."""
-    lines = log.split('\n')
+    # a long message is wrapped, and what it says of a name may stand in its second line
+    lines = re.sub(r'\n +(?=has no |is not in scope)', ' ', log).split('\n')
     first = next((line for line in lines if 'error' in line and FOLLOWS not in line), None)
     if first is None:
         return None if any(LEFT in line for line in lines) else 'the log shows no fact that fails'

@@ -44,6 +44,7 @@ def logs():
         'p/Proof.antt:1:2: error: `x` has no `Need-add-i` that can be named from here\n',
         'p/Proof.antt:1:2: error: `f-spec`: expected type `tie.Need-shl`, but this has type `tie.Need-returns`\n',
         'p/Proof.antt:1:2: error: `returns`: record `Lts.After-wr-of` has no field `rd-of`\n',
+        'p/Proof.antt:1:2: error: `returns`: record `Lts.After-wr-of`\n  has no field `rd-of`\n',
         'src/lib.rt:1:2: error[unknown-name]: cannot find value `x` in this scope\n',
         'specs/A.antt:1:2: error: `f`: `g` is not in scope\n',
         'specs/A.antt:1:2: error: Parse: unexpected\n',
