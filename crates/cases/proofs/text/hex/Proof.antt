@@ -1,10 +1,10 @@
--- `translations::text::hex` is safe and ends.
+-- `cases::text::hex` is safe and ends.
 -- Assumes nothing.
 use Prim.Native.Nat.{_-_, _≤_}
 use lib.ListN.{length}
 use borrow.Author.Needs.{needs}
-use Rattle.translations.proofs.text.hex.Statement.{statement}
-use Rattle.translations.proofs.text.hex.Tie as tie
+use Rattle.cases.proofs.text.hex.Statement.{statement}
+use Rattle.cases.proofs.text.hex.Tie as tie
 
 abbrev Inv-loop : tie.InvT-loop
 Inv-loop text v₀ i₀ v i = i ≤ length text

@@ -1,11 +1,11 @@
--- `translations::text::words` is safe and ends.
+-- `cases::text::words` is safe and ends.
 -- Assumes nothing.
 use mathlib.Core.Path.{_≡_}
 use Prim.Native.Nat.{_-_}
 use lib.ListN.{length}
 use borrow.Author.Needs.{needs}
-use Rattle.translations.proofs.text.words.Statement.{statement}
-use Rattle.translations.proofs.text.words.Tie as tie
+use Rattle.cases.proofs.text.words.Statement.{statement}
+use Rattle.cases.proofs.text.words.Tie as tie
 
 abbrev Inv-loop : tie.InvT-loop
 Inv-loop text out₀ n count₀ at₀ out count at = length out ≡ length out₀

@@ -56,3 +56,47 @@ pub fn words(text: &[u8], out: &mut [u64], n: usize) -> usize {
     }
     count
 }
+
+pub fn clear(kept: &mut [u64]) {
+    let mut i = 0;
+    while i < kept.len() {
+        kept[i] = 0;
+        i += 1;
+    }
+}
+
+pub fn clear_bytes(queue: &mut [u8]) {
+    let mut i = 0;
+    while i < queue.len() {
+        queue[i] = 0;
+        i += 1;
+    }
+}
+
+fn put_byte(queue: &mut [u8], at: usize, i: usize, w: u64) {
+    if at < queue.len() {
+        if i < queue.len() - at {
+            queue[at + i] = (w % 256) as u8;
+        }
+    }
+}
+
+fn put_word(queue: &mut [u8], at: usize, from: usize, w: u64)
+    requires { ⌜ from < 32 ⌝ }
+{
+    let mut rest = w;
+    let mut i = 0;
+    while i < 8 {
+        put_byte(&mut *queue, at, from + i, rest);
+        rest = rest / 256;
+        i += 1;
+    }
+}
+
+// Puts the last four of six words into the bytes from `at` on.
+pub fn put_words(queue: &mut [u8], at: usize, w: [u64; 6]) {
+    put_word(&mut *queue, at, 0, w[2]);
+    put_word(&mut *queue, at, 8, w[3]);
+    put_word(&mut *queue, at, 16, w[4]);
+    put_word(&mut *queue, at, 24, w[5]);
+}

@@ -1,0 +1,19 @@
+-- `cases::main` is safe and ends.
+-- Assumes nothing.
+use borrow.Author.Needs.{needs}
+use Rattle.cases.proofs.main.Statement.{statement}
+use Rattle.cases.proofs.main.Tie as tie
+
+pub main-spec : {M : Type 1} → statement M
+main-spec =
+    tie.close
+    (tie.spec
+    (λ c κs. search needs)
+    (λ c. search needs)
+    (λ c κs. search needs)
+    (λ c. search needs)
+    (λ c. search needs)
+    (λ c. search needs)
+    (λ c. search needs)
+    (λ c κs. search needs)
+    (λ c. search needs))
