@@ -63,7 +63,7 @@ fn main() -> ExitCode {
     phases::single::accepted(&mut checker);
     phases::single::damaged(&mut checker);
     phases::cuts::cuts(&mut checker);
-    phases::sessions::sessions(&mut checker);
+    phases::sequences::sequences(&mut checker);
 
     println!();
     let missing = checker.tally.print();

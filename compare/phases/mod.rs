@@ -6,7 +6,7 @@ pub mod commands;
 pub mod controls;
 pub mod cuts;
 pub mod formats;
-pub mod sessions;
+pub mod sequences;
 pub mod single;
 
 use crate::model::control::Control;

@@ -7,12 +7,7 @@ use commands::Features;
 ghost use Prim.Native.Nat.{_<_, _≤_};
 
 pub fn all() {
-    let yes = Features {
-        s1p: true,
-        s2p: true,
-        asid16: true,
-        vmid16: true,
-    };
+    let yes = features(true, true, true, true);
     say(b"legal codes:");
     known_codes(yes);
     say(b"\n");
@@ -95,54 +90,28 @@ fn reserved(f: Features, c: u64) {
     say(b"\n");
 }
 
+fn features(s1p: bool, s2p: bool, asid16: bool, vmid16: bool) -> Features {
+    Features {
+        s1p,
+        s2p,
+        asid16,
+        vmid16,
+    }
+}
+
 fn one_code(c: u64) {
-    let yes = Features {
-        s1p: true,
-        s2p: true,
-        asid16: true,
-        vmid16: true,
-    };
-    let no_s2p = Features {
-        s1p: true,
-        s2p: false,
-        asid16: true,
-        vmid16: true,
-    };
+    let no_s2p = features(true, false, true, true);
     code(c);
     say(b": without S1P");
-    verdict(
-        Features {
-            s1p: false,
-            s2p: true,
-            asid16: true,
-            vmid16: true,
-        },
-        c,
-    );
+    verdict(features(false, true, true, true), c);
     say(b", S2P");
     verdict(no_s2p, c);
     say(b", ASID16");
-    verdict(
-        Features {
-            s1p: true,
-            s2p: true,
-            asid16: false,
-            vmid16: true,
-        },
-        c,
-    );
+    verdict(features(true, true, false, true), c);
     say(b", VMID16");
-    verdict(
-        Features {
-            s1p: true,
-            s2p: true,
-            asid16: true,
-            vmid16: false,
-        },
-        c,
-    );
+    verdict(features(true, true, true, false), c);
     say(b"\n  Reserved:");
-    reserved(yes, c);
+    reserved(features(true, true, true, true), c);
     if is_legal(no_s2p, c, 0) {
         say(b"  Reserved without S2P:");
         reserved(no_s2p, c);
@@ -167,12 +136,7 @@ fn code_by_code() {
 }
 
 fn sync() {
-    let none = Features {
-        s1p: false,
-        s2p: false,
-        asid16: false,
-        vmid16: false,
-    };
+    let none = features(false, false, false, false);
     say(b"46 with CS 0:");
     verdict(none, 0x46);
     say(b", CS 1:");

@@ -10,33 +10,33 @@ use crate::generate::transactions::aimed;
 use crate::generate::world::World;
 use crate::model::control::Control;
 
-pub fn sessions(checker: &mut Checker) {
-    let mut random = checker.phase("sessions on one memory");
+pub fn sequences(checker: &mut Checker) {
+    let mut random = checker.phase("sequences on one memory");
     for _ in 0..4_000 {
         let world = World::new(&mut random);
         let features = features(&mut random);
         let kept = image(&mut random, &world);
         let queue = queue_for(&mut random, &world, &kept, features);
-        let mut session = Session {
+        let mut sequence = Sequence {
             world,
             features,
             kept,
             queue,
         };
         for _ in 0..40 {
-            session.step(checker, &mut random);
+            sequence.step(checker, &mut random);
         }
     }
 }
 
-struct Session {
+struct Sequence {
     world: World,
     features: u64,
     kept: Vec<u64>,
     queue: Vec<u8>,
 }
 
-impl Session {
+impl Sequence {
     fn step(&mut self, checker: &mut Checker, random: &mut Random) {
         let call = match random.below(16) {
             0..=4 => return self.run(checker, random),
@@ -88,7 +88,7 @@ impl Session {
         }
     }
 
-    /// Acknowledges and switches, so that no session stays held or off for long.
+    /// Acknowledges and switches, so that no sequence stays held or off for long.
     fn recover(&mut self, checker: &mut Checker, random: &mut Random) {
         checker.call(&mut self.kept, Call::Acknowledge);
         checker.call(&mut self.kept, any_enable(random));
