@@ -1,0 +1,84 @@
+//! A table of 32 streams, each with its STE, CD, stage 1 and stage 2 row.
+
+use super::{memory, Asked, Case, Per, Work, ALL_FEATURES, COMMANDS, FULL_OFF, ROWS};
+use super::{STAGE1_PAYLOAD, STAGE2_PAYLOAD, STE_PAYLOAD};
+use crate::model::run::End;
+use crate::rows::{cd, ste, Reach, Words, STAGE1, STAGE2};
+
+const CHAINS: u64 = ROWS as u64 / 4;
+
+fn stream(number: u64) -> u64 {
+    8 * number
+}
+
+fn page(number: u64) -> u64 {
+    (number + 1) << 12
+}
+
+/// Config 7, so that a transaction goes through all four rows.
+fn chain(number: u64) -> [Words; 4] {
+    let id = number + 1;
+    let first = Reach {
+        kind: STAGE1,
+        vmid: id,
+        asid: id,
+        global: false,
+        span: 12,
+        page: page(number),
+    };
+    let middle = id << 21;
+    let second = Reach {
+        kind: STAGE2,
+        span: 21,
+        page: middle,
+        ..first
+    };
+    [
+        ste(stream(number), id, 7, STE_PAYLOAD),
+        cd(stream(number), 0, id),
+        first.page(middle, STAGE1_PAYLOAD),
+        second.page(id << 30, STAGE2_PAYLOAD),
+    ]
+}
+
+fn rows() -> Vec<Words> {
+    (0..CHAINS).flat_map(chain).collect()
+}
+
+/// A run with the queue off: nothing but the check that every call starts with.
+pub fn check() -> Case {
+    Case {
+        letter: "e",
+        what: "the check of the image alone (a run that ends Off)",
+        kept: memory(FULL_OFF, &rows()),
+        work: Work::Runs {
+            queues: vec![vec![0; 16 * COMMANDS]],
+            features: ALL_FEATURES,
+        },
+        per: Per::Call,
+        end: End::Off as u64,
+        removes: None,
+    }
+}
+
+/// The last stream's rows stand last, so that each search goes through the table.
+pub fn transaction() -> Case {
+    let last = CHAINS - 1;
+    Case {
+        letter: "f",
+        what: "a transaction of both stages, its rows last",
+        kept: memory(FULL_OFF, &rows()),
+        work: Work::Translate(Asked {
+            stream: stream(last) as u32,
+            substream: 0,
+            address: page(last) + 0x123,
+            how: 0,
+            memattr: 15,
+            sh: 3,
+            hints: 0o33,
+        }),
+        per: Per::Call,
+        end: 0,
+        removes: None,
+    }
+}

@@ -1,0 +1,74 @@
+//! What a Linux guest sent (crates/decodes/data), a queueful at a time, each time
+//! over the same full table.
+
+use super::{bytes, memory, shuffle, Case, Command, Per, Work, COMMANDS, ENABLED, FULL_OFF, ROWS};
+use super::{STAGE1_PAYLOAD, STE_PAYLOAD};
+use crate::model::run::End;
+use crate::rows::{cd, ste, Reach, Words, STAGE1};
+use std::collections::{BTreeMap, BTreeSet};
+
+const SENT: &[u8] = include_bytes!("../../crates/decodes/data/linux-6.12-no-ril.bin");
+/// S1P and ASID16: what the guest's SMMU had.
+const FEATURES: u64 = 5;
+
+fn commands() -> Vec<Command> {
+    let word = |bytes: &[u8]| {
+        bytes
+            .iter()
+            .rev()
+            .fold(0, |word, &byte| word << 8 | u64::from(byte))
+    };
+    let pair = |slot: &[u8]| (word(&slot[..8]), word(&slot[8..]));
+    SENT.chunks_exact(16).map(pair).collect()
+}
+
+/// Rows that this guest could have had: an STE and a CD row for each stream that
+/// it names, and the pages that it invalidates most often.
+fn rows(commands: &[Command]) -> Vec<Words> {
+    let mut streams = BTreeSet::new();
+    let mut pages = BTreeMap::new();
+    for &(low, high) in commands {
+        match low & 0xFF {
+            0x03 | 0x05 => drop(streams.insert(low >> 32)),
+            0x12 => *pages.entry((low >> 48, high & !0xFFF)).or_insert(0) += 1,
+            _ => {}
+        }
+    }
+    let mut rows = Vec::new();
+    for (&stream, asid) in streams.iter().zip(1..) {
+        rows.push(ste(stream, 0, 5, STE_PAYLOAD));
+        rows.push(cd(stream, 0, asid));
+    }
+    let mut often: Vec<_> = pages.into_iter().collect();
+    often.sort_by_key(|&(_, times)| std::cmp::Reverse::<u32>(times));
+    for ((asid, address), _) in often {
+        let reach = Reach {
+            kind: STAGE1,
+            vmid: 0,
+            asid,
+            global: false,
+            span: 12,
+            page: address,
+        };
+        rows.push(reach.page(address, STAGE1_PAYLOAD));
+    }
+    rows.truncate(ROWS);
+    shuffle(8, &mut rows);
+    rows
+}
+
+pub fn case() -> Case {
+    let commands = commands();
+    Case {
+        letter: "d",
+        what: "a Linux guest's commands",
+        kept: memory(FULL_OFF | ENABLED, &rows(&commands)),
+        work: Work::Runs {
+            queues: commands.chunks_exact(COMMANDS).map(bytes).collect(),
+            features: FEATURES,
+        },
+        per: Per::Command,
+        end: End::Empty as u64,
+        removes: None,
+    }
+}

@@ -1,0 +1,74 @@
+//! One guest's pages: 64 rows of stage 1 and 64 of stage 2, none of which a
+//! command removes.
+
+use super::{shuffle, Case, Command, COMMANDS, ROWS, STAGE1_PAYLOAD, STAGE2_PAYLOAD};
+use crate::random::Random;
+use crate::rows::{Reach, Words, STAGE1, STAGE2};
+
+const VMID: u64 = 5;
+const ASIDS: u64 = 4;
+const BLOCK: u64 = 1 << 21;
+
+/// A page in one of 2^18 blocks of 2 MiB. Rows have the even blocks and commands
+/// the odd ones, so that no row covers a command's address.
+fn page(random: &mut Random, odd: u64) -> u64 {
+    (2 * random.below(1 << 17) + odd) * BLOCK + random.below(512) * 4096
+}
+
+fn rows() -> Vec<Words> {
+    let mut random = Random::new(3);
+    let mut rows = Vec::new();
+    for place in 0..ROWS as u64 {
+        let (kind, payload) = match place % 2 {
+            0 => (STAGE1, STAGE1_PAYLOAD),
+            _ => (STAGE2, STAGE2_PAYLOAD),
+        };
+        let reach = Reach {
+            kind,
+            vmid: VMID,
+            asid: random.below(ASIDS),
+            global: false,
+            span: random.pick(&[12, 12, 12, 21]),
+            page: page(&mut random, 0),
+        };
+        rows.push(reach.page(page(&mut random, 0), payload));
+    }
+    shuffle(4, &mut rows);
+    rows
+}
+
+/// The scan's worst case: a command's kind and VMID fit half the rows, no address.
+pub fn by_address() -> Case {
+    let mut random = Random::new(5);
+    let mut command = |place: usize| -> Command {
+        let low = VMID << 32;
+        let asid = random.below(ASIDS) << 48;
+        let high = page(&mut random, 1) | random.below(2);
+        match place % 3 {
+            0 => (low | asid | 0x12, high),
+            1 => (low | 0x13, high),
+            _ => (low | 0x2A, high),
+        }
+    };
+    let mut commands: Vec<Command> = (0..COMMANDS).map(&mut command).collect();
+    shuffle(6, &mut commands);
+    Case::full(
+        "b",
+        "commands by address, none removes a row",
+        &rows(),
+        &commands,
+    )
+}
+
+pub fn without_scope() -> Case {
+    let command = |place: usize| -> Command {
+        match place % 3 {
+            0 => (0x01, 0),
+            1 => (0x02, 0),
+            _ => (0x46, 0),
+        }
+    };
+    let mut commands: Vec<Command> = (0..COMMANDS).map(command).collect();
+    shuffle(7, &mut commands);
+    Case::full("c", "commands without a scope", &rows(), &commands)
+}

@@ -1,0 +1,84 @@
+//! The unit and the model behind functions of one shape, that of the C interface.
+
+use crate::cases::{Case, Work};
+use crate::modelled::{model_run, model_translate};
+use std::hint::black_box;
+
+type Run = unsafe extern "C" fn(*mut u64, usize, *const u8, usize, u64, u64, *mut u64) -> u64;
+type Translate =
+    unsafe extern "C" fn(*const u64, usize, u32, u32, u64, u64, u64, u64, u64, *mut u64) -> u64;
+
+extern "C" {
+    fn tahvenno_run(
+        kept: *mut u64,
+        words: usize,
+        queue: *const u8,
+        bytes: usize,
+        features: u64,
+        allowance: u64,
+        answer: *mut u64,
+    ) -> u64;
+    fn tahvenno_translate(
+        kept: *const u64,
+        words: usize,
+        stream: u32,
+        substream: u32,
+        address: u64,
+        how: u64,
+        memattr: u64,
+        sh: u64,
+        hints: u64,
+        answer: *mut u64,
+    ) -> u64;
+}
+
+pub struct Side {
+    run: Run,
+    translate: Translate,
+}
+
+pub const UNIT: Side = Side {
+    run: tahvenno_run,
+    translate: tahvenno_translate,
+};
+
+pub const MODEL: Side = Side {
+    run: model_run,
+    translate: model_translate,
+};
+
+/// The returned number and the answer's words.
+pub type Reply = (u64, [u64; 8]);
+
+impl Side {
+    /// One call of a case. Not inlined, and through a hidden pointer, so that the
+    /// compiler can't fit the model's code, which it sees, to one input.
+    #[inline(never)]
+    pub fn call(&self, case: &Case, call: usize, kept: &mut [u64]) -> Reply {
+        let mut answer = [u64::MAX; 8];
+        let (memory, words, told) = (kept.as_mut_ptr(), kept.len(), answer.as_mut_ptr());
+        // SAFETY: the pointers come from live borrows of the lengths given beside
+        // them, eight words for the answer, and no two overlap.
+        let number = unsafe {
+            match &case.work {
+                Work::Runs { queues, features } => {
+                    let (first, bytes) = (queues[call].as_ptr(), queues[call].len());
+                    black_box(self.run)(memory, words, first, bytes, *features, u64::MAX, told)
+                }
+                Work::Translate(asked) => black_box(self.translate)(
+                    memory,
+                    words,
+                    asked.stream,
+                    asked.substream,
+                    asked.address,
+                    asked.how,
+                    asked.memattr,
+                    asked.sh,
+                    asked.hints,
+                    told,
+                ),
+            }
+        };
+        (number, black_box(answer))
+    }
+}
