@@ -4,12 +4,16 @@
 //! shape (`sides.rs`). Before anything is timed, each input is tried on both, and
 //! a difference ends the program. `bench/run` builds this and uses it so:
 //!
-//!     bench time                 a line of figures for each case
-//!     bench once CASE SIDE       the case's calls, once, for counting instructions
+//!     bench cases                what the cases are, a line each
+//!     bench time                 figures, a line for each case and stack place
+//!     bench once CASE SIDE ROWS  the case's calls, once, for counting instructions
+//!     bench off CASE SIDE ROWS   the same with the queue off: the check alone
 //!
-//! CASE is a letter, SIDE `unit` or `model`.
+//! CASE is a letter, SIDE `unit` or `model`, and of the table the first ROWS rows
+//! are left. Lines have fields between tabs, the first line their names.
 
 mod cases;
+mod gap;
 mod measure;
 #[allow(dead_code)]
 #[path = "../compare/model/mod.rs"]
@@ -22,74 +26,86 @@ mod random;
 #[path = "../compare/generate/rows.rs"]
 mod rows;
 mod sides;
+mod stack;
 mod verify;
 #[allow(dead_code)]
 #[path = "../compare/generate/world.rs"]
 mod world;
 
-use cases::Case;
+use cases::{Case, ENABLED};
 use sides::{Side, MODEL, UNIT};
 use std::process::ExitCode;
+use verify::Totals;
 
-/// One line for each case; `bench/figures.py` reads them by these names.
-const FIELDS: &str =
-    "case\twhat\tper\tcalls\tcommands\trows\tremoved\tparts\tunit\tmodel\tlow\thigh";
-
-fn time(cases: &[Case]) -> ExitCode {
-    let mut seen = Vec::new();
-    for case in cases {
-        match verify::same(case) {
-            Ok(totals) => seen.push(totals),
-            Err(why) => {
-                eprintln!("case {}: {why}", case.letter);
-                return ExitCode::FAILURE;
-            }
-        }
-    }
-    let figures = measure::all(cases, &seen);
-    println!("{FIELDS}");
-    for ((case, totals), figure) in cases.iter().zip(&seen).zip(figures) {
-        let (unit, model) = (figure.unit, figure.model);
-        println!(
-            "{}\t{}\t{}\t{}\t{}\t{}\t{}\t{}\t{unit}\t{model}\t{:.3}\t{:.3}",
-            case.letter,
-            case.what,
-            case.per(),
-            case.calls(),
-            totals.consumed,
-            case.kept.len() / 4,
-            totals.removed,
-            case.parts(),
-            figure.low,
-            figure.high,
-        );
-    }
-    ExitCode::SUCCESS
+fn verified(cases: &[Case]) -> Result<Vec<Totals>, String> {
+    let named =
+        |case: &Case| verify::same(case).map_err(|why| format!("case {}: {why}", case.letter));
+    cases.iter().map(named).collect()
 }
 
-fn once(cases: &[Case], letter: &str, side: &Side) -> ExitCode {
-    let Some(case) = cases.iter().find(|case| case.letter == letter) else {
-        eprintln!("no such case");
-        return ExitCode::from(2);
-    };
-    let mut memory = case.kept.clone();
-    for call in 0..case.calls() {
-        memory.copy_from_slice(&case.kept);
-        side.call(case, call, &mut memory);
+fn describe(cases: &[Case]) -> Result<(), String> {
+    let seen = verified(cases)?;
+    println!("case\twhat\tper\tcalls\tparts\trows\tremoved");
+    for (case, totals) in cases.iter().zip(&seen) {
+        let (calls, parts, rows) = (case.calls(), case.parts(), case.kept.len() / 4);
+        let (letter, what, per, removed) = (case.letter, case.what, case.per(), totals.removed);
+        println!("{letter}\t{what}\t{per}\t{calls}\t{parts}\t{rows}\t{removed}");
     }
-    ExitCode::SUCCESS
+    Ok(())
+}
+
+fn time(cases: &[Case]) -> Result<(), String> {
+    let seen = verified(cases)?;
+    println!("case\tplace\tunit\tmodel");
+    for (case, figures) in cases.iter().zip(measure::all(cases, &seen)) {
+        for figure in figures {
+            let (letter, place) = (case.letter, figure.place);
+            println!("{letter}\t{place}\t{:.3}\t{:.3}", figure.unit, figure.model);
+        }
+    }
+    Ok(())
+}
+
+/// The words of kept memory that a count is made on.
+fn cut(case: &Case, rows: &str, clear: u64) -> Option<Vec<u64>> {
+    let rows: usize = rows.parse().ok()?;
+    let mut kept = case.kept.get(..1 + 4 * rows)?.to_vec();
+    kept[0] &= !clear;
+    Some(kept)
+}
+
+fn once(cases: &[Case], [letter, side, rows]: [&str; 3], clear: u64) -> Result<(), String> {
+    let case = cases.iter().find(|case| case.letter == letter);
+    let case = case.ok_or("no such case")?;
+    let side: &Side = match side {
+        "unit" => &UNIT,
+        "model" => &MODEL,
+        _ => return Err("no such side".into()),
+    };
+    let kept = cut(case, rows, clear).ok_or("no such number of rows")?;
+    for call in 0..case.calls() {
+        side.call(case, call, &mut kept.clone());
+    }
+    Ok(())
 }
 
 fn main() -> ExitCode {
     let arguments: Vec<String> = std::env::args().skip(1).collect();
     let arguments: Vec<&str> = arguments.iter().map(String::as_str).collect();
-    match arguments[..] {
-        ["time"] => time(&cases::all()),
-        ["once", letter, "unit"] => once(&cases::all(), letter, &UNIT),
-        ["once", letter, "model"] => once(&cases::all(), letter, &MODEL),
-        _ => {
-            eprintln!("usage: bench time | bench once CASE unit|model");
-            ExitCode::from(2)
+    gap::keep();
+    let cases = cases::all();
+    let done = match arguments[..] {
+        ["cases"] => describe(&cases),
+        ["time"] => time(&cases),
+        ["once", letter, side, rows] => once(&cases, [letter, side, rows], 0),
+        ["off", letter, side, rows] => once(&cases, [letter, side, rows], ENABLED),
+        _ => Err("usage: bench cases | time | once CASE SIDE ROWS | off CASE SIDE ROWS".into()),
+    };
+    match done {
+        Ok(()) => ExitCode::SUCCESS,
+        Err(why) => {
+            eprintln!("bench: {why}");
+            ExitCode::FAILURE
         }
     }
 }

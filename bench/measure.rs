@@ -1,98 +1,95 @@
 //! Times both sides in turn, and keeps the best of each.
 //!
-//! Others share the machine, so a single time says little: sides and cases take
-//! turns, in several blocks, and what is compared comes from the same block.
+//! Others share the machine, so a single time says little: the sides take turns,
+//! the cases too, in several rounds. Where the stack stands within a cache line
+//! changes times as well, and it's another place at every start of the program;
+//! so each place is measured apart.
 
 use crate::cases::Case;
 use crate::sides::{Side, MODEL, UNIT};
+use crate::stack::{at_place, LOOK, PLACES};
 use crate::verify::Totals;
 use std::time::{Duration, Instant};
 
-const BLOCKS: usize = 5;
-/// How long a case takes in one block.
-const TURN: Duration = Duration::from_millis(500);
+const ROUNDS: usize = 3;
+/// How long a case takes at one place in one round.
+const TURN: Duration = Duration::from_millis(60);
 /// Calls within one timed part where nothing has to be restored between them;
 /// such calls are short, and reading the clock isn't free.
-const REPEATS: u32 = 200;
+const REPEATS: u32 = 100;
 
-/// Best nanoseconds for one command or call, and the ratio unit to model: the
-/// lowest and the highest of the blocks.
+/// Nanoseconds for one command or call at one place of the stack.
 pub struct Figure {
+    pub place: usize,
     pub unit: f64,
     pub model: f64,
-    pub low: f64,
-    pub high: f64,
 }
 
-/// The best time of each call of a case.
-struct Bests(Vec<Duration>);
+/// The best times of each call of a case, by side.
+struct Bests([Vec<Duration>; 2]);
 
 impl Bests {
     fn new(case: &Case) -> Bests {
-        Bests(vec![Duration::MAX; case.calls()])
+        Bests([0, 1].map(|_| vec![Duration::MAX; case.calls()]))
     }
 
-    fn merge(&mut self, other: &Bests) {
-        for (best, &time) in self.0.iter_mut().zip(&other.0) {
-            *best = time.min(*best);
-        }
-    }
-
-    /// Once through the case's calls; the memory is restored before the clock is
-    /// read.
-    fn sample(&mut self, side: &Side, case: &Case, repeats: u32, memory: &mut [u64]) {
-        for (call, best) in self.0.iter_mut().enumerate() {
-            memory.copy_from_slice(&case.kept);
-            let start = Instant::now();
-            for _ in 0..repeats {
-                side.call(case, call, memory);
+    /// Both sides again and again, each going first half the time; at least once.
+    #[inline(never)]
+    fn turn(&mut self, sides: [&Side; 2], case: &Case, repeats: u32, turn: Duration) {
+        let mut memory = case.kept.clone();
+        let mut first = 0;
+        let start = Instant::now();
+        loop {
+            for side in [first, 1 - first] {
+                sample(&mut self.0[side], sides[side], case, repeats, &mut memory);
             }
-            *best = (start.elapsed() / repeats).min(*best);
+            first = 1 - first;
+            if start.elapsed() >= turn {
+                break;
+            }
         }
     }
 
-    fn per_part(&self, case: &Case) -> f64 {
-        let whole: Duration = self.0.iter().sum();
+    fn per_part(&self, side: usize, case: &Case) -> f64 {
+        let whole: Duration = self.0[side].iter().sum();
         whole.as_nanos() as f64 / case.parts() as f64
     }
 }
 
-/// One turn of a case: both sides again and again, each going first half the time.
-fn turn(case: &Case, repeats: u32) -> [Bests; 2] {
-    let sides = [&UNIT, &MODEL];
-    let mut bests = [Bests::new(case), Bests::new(case)];
-    let mut memory = case.kept.clone();
-    let start = Instant::now();
-    let mut first = 0;
-    while start.elapsed() < TURN {
-        for side in [first, 1 - first] {
-            bests[side].sample(sides[side], case, repeats, &mut memory);
+/// Once through the case's calls. The memory is restored before the clock is read.
+fn sample(bests: &mut [Duration], side: &Side, case: &Case, repeats: u32, memory: &mut [u64]) {
+    for (call, best) in bests.iter_mut().enumerate() {
+        memory.copy_from_slice(&case.kept);
+        let start = Instant::now();
+        for _ in 0..repeats {
+            side.call(case, call, memory);
         }
-        first = 1 - first;
+        *best = (start.elapsed() / repeats).min(*best);
     }
-    bests
 }
 
-pub fn all(cases: &[Case], seen: &[Totals]) -> Vec<Figure> {
-    let mut bests: Vec<_> = cases
-        .iter()
-        .map(|case| [Bests::new(case), Bests::new(case)])
-        .collect();
-    let mut ratios = vec![Vec::new(); cases.len()];
-    for _ in 0..BLOCKS {
-        for (place, case) in cases.iter().enumerate() {
-            let repeats = if seen[place].stored { 1 } else { REPEATS };
-            let [unit, model] = turn(case, repeats);
-            ratios[place].push(unit.per_part(case) / model.per_part(case));
-            bests[place][0].merge(&unit);
-            bests[place][1].merge(&model);
+/// The figures of each case, one for each place.
+pub fn all(cases: &[Case], seen: &[Totals]) -> Vec<Vec<Figure>> {
+    let new = |case: &Case| -> Vec<Bests> { (0..PLACES).map(|_| Bests::new(case)).collect() };
+    let mut bests: Vec<_> = cases.iter().map(new).collect();
+    for _ in 0..ROUNDS {
+        for ((case, totals), bests) in cases.iter().zip(seen).zip(&mut bests) {
+            let repeats = if totals.stored { 1 } else { REPEATS };
+            for (place, best) in bests.iter_mut().enumerate() {
+                at_place(place, &mut |real| match real {
+                    true => best.turn([&UNIT, &MODEL], case, repeats, TURN),
+                    false => Bests::new(case).turn([&LOOK; 2], case, 1, Duration::ZERO),
+                });
+            }
         }
     }
-    let figure = |(place, case): (usize, &Case)| Figure {
-        unit: bests[place][0].per_part(case),
-        model: bests[place][1].per_part(case),
-        low: ratios[place].iter().copied().fold(f64::MAX, f64::min),
-        high: ratios[place].iter().copied().fold(0.0, f64::max),
+    let figures = |(case, bests): (&Case, &Vec<Bests>)| {
+        let figure = |(place, best): (usize, &Bests)| Figure {
+            place,
+            unit: best.per_part(0, case),
+            model: best.per_part(1, case),
+        };
+        bests.iter().enumerate().map(figure).collect()
     };
-    cases.iter().enumerate().map(figure).collect()
+    cases.iter().zip(&bests).map(figures).collect()
 }

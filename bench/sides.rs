@@ -4,8 +4,8 @@ use crate::cases::{Case, Work};
 use crate::modelled::{model_run, model_translate};
 use std::hint::black_box;
 
-type Run = unsafe extern "C" fn(*mut u64, usize, *const u8, usize, u64, u64, *mut u64) -> u64;
-type Translate =
+pub type Run = unsafe extern "C" fn(*mut u64, usize, *const u8, usize, u64, u64, *mut u64) -> u64;
+pub type Translate =
     unsafe extern "C" fn(*const u64, usize, u32, u32, u64, u64, u64, u64, u64, *mut u64) -> u64;
 
 extern "C" {
@@ -33,8 +33,8 @@ extern "C" {
 }
 
 pub struct Side {
-    run: Run,
-    translate: Translate,
+    pub run: Run,
+    pub translate: Translate,
 }
 
 pub const UNIT: Side = Side {

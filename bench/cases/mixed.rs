@@ -63,7 +63,9 @@ fn row(code: u64, number: u64) -> Words {
 fn command(code: u64, number: u64) -> Command {
     let (vmid, asid, page) = (number << 32, number << 48, number << 21);
     let low = match code {
-        0x03 | 0x04 | 0x06 => stream(number) << 32,
+        0x03 | 0x06 => stream(number) << 32,
+        // Within the row's block, but not within the command's block of its start.
+        0x04 => (stream(number) + 32) << 32,
         0x05 => stream(number) << 32 | 1 << 12,
         0x11 | 0x12 => vmid | asid,
         _ => vmid,

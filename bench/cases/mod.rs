@@ -19,7 +19,8 @@ pub const ALL_FEATURES: u64 = 15;
 
 /// RD 0, WR 256, LOG2SIZE 8, without CMDQEN.
 const FULL_OFF: u64 = 0x100 << 20 | 8 << 50;
-const ENABLED: u64 = 1 << 49;
+/// CMDQEN.
+pub const ENABLED: u64 = 1 << 49;
 
 /// MemAttr 15 (WB both), SH 3; for stage 1 also hints RA and WA in both halves.
 pub const STAGE2_PAYLOAD: u64 = 15 | 3 << 4;
