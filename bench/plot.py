@@ -78,7 +78,7 @@ def legend():
         parts.append(f'<rect x="{x}" y="50" width="14" height="14" fill="{COLOURS[kind]}"/>')
         parts.append(text(x + 20, 62, f"against the {title}"))
         x += 190
-    parts.append(text(WIDTH - 16, 26, "whiskers: lowest and highest setting", 'text-anchor="end" fill="#666"'))
+    parts.append(text(WIDTH - 16, 26, "whiskers: lowest and highest median of a place or build", 'text-anchor="end" fill="#666"'))
     return parts
 
 
