@@ -857,12 +857,6 @@ const COMBINED: [u8; 841] = [
     28,
 ];
 
-fn wide(x: u8) -> u64
-    ensures { λ r. ⌜ (r ≡ x) × (r < 256) ⌝ }
-{
-    x as u64
-}
-
 fn rank(s: u64) -> u64
     ensures { λ r. ⌜ (r ≡ rank s) × (r < 3) ⌝ }
 {
@@ -887,7 +881,7 @@ pub fn number(m: u64, s: u64) -> u64
         return 4;
     }
     let at = m as usize;
-    5 + 3 * wide(PLACES[at]) + rank(s)
+    5 + 3 * words::wide(PLACES[at]) + rank(s)
 }
 
 fn sh_of_rank(r: u64) -> u64
@@ -914,7 +908,7 @@ pub fn mem_attr_of(c: u64) -> u64
         return 5;
     }
     let at = ((c - 5) / 3) as usize;
-    wide(NORMALS[at])
+    words::wide(NORMALS[at])
 }
 
 // The SH of a number.
@@ -933,7 +927,7 @@ pub fn combine(a: u64, b: u64) -> u64
     ensures { λ r. ⌜ r ≡ combine a b ⌝ }
 {
     let at = (a * 29 + b) as usize;
-    wide(COMBINED[at])
+    words::wide(COMBINED[at])
 }
 
 // Attributes with the MemAttr and the SH of a second stage.

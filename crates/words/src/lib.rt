@@ -37,7 +37,8 @@ pub fn put(w: u64, h: u64, l: u64, v: u64) -> u64
     w / top * top + (v % power(h + 1 - l) * power(l) + w % power(l))
 }
 
-fn wide(x: u8) -> u64
+// A byte as a word.
+pub fn wide(x: u8) -> u64
     ensures { λ r. ⌜ (r ≡ x) × (r < 256) ⌝ }
 {
     x as u64
