@@ -1,6 +1,6 @@
 -- The laws of `part` and `put`: a part is bounded by its width; a part that was put is read back, and every other part stays.
 -- Assumes nothing.
-use mathlib.Core.Path.{_≡_, refl, sym, ap, _∙_, subst}
+use mathlib.Core.Path.{_≡_, refl, sym, ap, ap₂, _∙_, subst}
 use mathlib.Core.Bool.{Bool, true, false, _&&_, _||_}
 use Prim.Native.Nat.{ℕ, _+_, _-_, _*_, _/_, _%_, _^_, _≤_, _<_}
 use native.Mathlib.Nat.{mod-lt, mod-eq-of-lt, lt-of-lt-of-le}
@@ -115,3 +115,12 @@ keeps (bits h l) v w (bits h′ l′) t = side (ltb h l′) refl
     side false e =
         put-below h l first v w h′ l′ second
         (ltb-true h′ l (rw e at (right (leb l h && leb l′ h′) (ltb h l′ || ltb h′ l) (passed t))))
+
+-- put again, it changes nothing more
+whole-again : (d l v w : ℕ) → whole d l v (whole d l v w) ≡ whole d l v w
+whole-again d l v w = ap₂ (λ (x y : ℕ). x * 2 ^ (d + l) + (v % 2 ^ d * 2 ^ l + y)) (over d l v w) (bottom d l v w)
+
+pub put-again : (h l : ℕ) → l ≤ h → (v w : ℕ) → put h l v (put h l v w) ≡ put h l v w
+put-again h l ordered v w =
+    is-whole h l ordered v (put h l v w) ∙ ap (whole (h + 1 - l) l v) (is-whole h l ordered v w) ∙ whole-again (h + 1 - l) l v w
+    ∙ sym (is-whole h l ordered v w)
