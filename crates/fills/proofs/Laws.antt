@@ -13,6 +13,7 @@ use lib.ListN.{length, getD, set}
 use lib.Seq.{getD-set-same, getD-set-other, set-set, set-comm}
 use borrow.Author.Tests.{not-true, not-false}
 use Rattle.words.specs.Stores.{afterStores}
+use Rattle.words.proofs.Stores.{after-all, after-length}
 use Rattle.words.proofs.Truth.{left, right, and-true, less-or-not}
 use Rattle.rows.specs.declared.Row.{Row}
 use Rattle.rows.specs.Rows.{isEmpty}
@@ -28,7 +29,7 @@ use Rattle.fills.specs.declared.FillRefusal.the-variants.{Image, NoSuchR
 use Rattle.fills.specs.declared.FillAnswer.{FillAnswer}
 use Rattle.fills.specs.declared.FillAnswer.the-variants.{Refused as NotFilled, Done}
 use Rattle.fills.specs.Fills.{fillStores, fit, report, Outcome, refused, fill, Fills}
-use Rattle.fills.proofs.Order.{each-place, after-all, after-length, report-cut, report-filled}
+use Rattle.fills.proofs.Order.{each-place, report-cut, report-filled}
 use Rattle.fills.proofs.Cases.{done, fill-image, fill-no-row, fill-in-use, fill-unfit, fill-done}
 
 -- a fill that no refusal stops

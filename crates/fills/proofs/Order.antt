@@ -1,45 +1,17 @@
 -- The stores of a fill, one after another.
 -- Assumes nothing.
 use mathlib.Core.Path.{_≡_, refl, sym, ap, _∙_}
-use mathlib.Core.List.{List, [], _∷_}
+use mathlib.Core.List.{List}
 use Prim.Native.Nat.{ℕ, zero, suc, _+_, _*_, _%_, _≤_, _<_}
 use native.Mathlib.Numerals.{add-one}
 use native.Mathlib.Omega.{arith}
-use lib.ListN.{length, getD, set, length-set}
+use lib.ListN.{length, set, length-set}
 use borrow.Author.Tests.{lt-ltb, le-ltb}
-use Rattle.words.specs.Stores.{Store, afterStores}
+use Rattle.words.specs.Stores.{afterStores}
+use Rattle.words.proofs.Stores.{after-none, after-one-more, after-all, after-length}
 use Rattle.rows.specs.declared.Row.{Row}
 use Rattle.fills.specs.declared.FillEnd.the-variants.{Filled, Cut}
 use Rattle.fills.specs.Fills.{fillStores, storeAt, report, Stores}
-
--- any list of stores: none, one more, and no more than all
-pub after-none : (ss : List Store) (m : List ℕ) → afterStores 0 ss m ≡ m
-unfolding afterStores
-after-none ss m = refl
-
-pub after-one-more : (d : Store) (k : ℕ) (ss : List Store) (m : List ℕ) → k < length ss
-    → afterStores (suc k) ss m ≡ set (afterStores k ss m) (getD ss k d .at) (getD ss k d .value)
-unfolding afterStores
-after-one-more d k [] m h = absurd (omega arith)
-after-one-more d zero (s ∷ ss) m h = refl
-after-one-more d (suc k) (s ∷ ss) m h =
-    let below : k < length ss = omega arith in
-    after-one-more d k ss (set m (s .at) (s .value)) below
-
-pub after-all : (k : ℕ) (ss : List Store) (m : List ℕ) → length ss ≤ k → afterStores k ss m ≡ afterStores (length ss) ss m
-unfolding afterStores
-after-all zero [] m h = refl
-after-all (suc k) [] m h = refl
-after-all zero (s ∷ ss) m h = absurd (omega arith)
-after-all (suc k) (s ∷ ss) m h =
-    let below : length ss ≤ k = omega arith in
-    after-all k ss (set m (s .at) (s .value)) below
-
-pub after-length : (k : ℕ) (ss : List Store) (m : List ℕ) → length (afterStores k ss m) ≡ length m
-unfolding afterStores
-after-length zero ss m = refl
-after-length (suc k) [] m = refl
-after-length (suc k) (s ∷ ss) m = after-length k ss (set m (s .at) (s .value)) ∙ length-set m (s .at) (s .value)
 
 -- what holds at each of the four places holds of every place
 pub each-place : (P : ℕ → Type 0) → P 0 → P 1 → P 2 → P 3 → (k : ℕ) → k < 4 → P k

@@ -5,3 +5,4 @@ pub mod Masks
 pub mod TwoWords
 pub mod Bytes
 pub mod Search
+pub mod Stores
