@@ -1,0 +1,66 @@
+#include "call.h"
+
+#include <string.h>
+
+#include "tahvenno.h"
+
+const char *const CALL_NAMES[CALLS] = {"run", "fill", "doorbell", "acknowledge", "enable", "translate", "state"};
+
+void make_call(const struct call *call, const struct input *input, uint64_t *kept, const uint8_t *queue, struct outcome *outcome) {
+    const struct access *access = &call->access;
+    size_t words = input->words;
+    uint64_t *answer = outcome->answer, returned = 0;
+    switch (call->which) {
+    case RUN: returned = tahvenno_run(kept, words, queue, input->bytes, input->features, call->allowance, answer); break;
+    case FILL:
+        returned = tahvenno_fill(kept, words, call->row, call->w[0], call->w[1], call->w[2], call->w[3], call->allowance, answer);
+        break;
+    case DOORBELL: returned = tahvenno_doorbell(kept, words, call->argument, answer); break;
+    case ACKNOWLEDGE: returned = tahvenno_acknowledge(kept, words, answer); break;
+    case ENABLE: returned = tahvenno_enable(kept, words, call->argument, answer); break;
+    case TRANSLATE:
+        returned = tahvenno_translate(kept, words, access->stream, access->substream, access->address, access->how,
+                                      access->memattr, access->sh, access->hints, answer);
+        break;
+    case STATE: returned = tahvenno_state(kept, words, answer); break;
+    case CALLS: break;
+    }
+    outcome->returned = returned;
+}
+
+static uint64_t any_allowance(struct dice *dice) {
+    switch (below(dice, 4)) {
+    case 0: return below(dice, 6);
+    case 1: return below(dice, 60);
+    case 2: return roll(dice) << 32 | below(dice, 6);
+    default: return UINT64_MAX;
+    }
+}
+
+/* Often a place where WR may go, else anywhere. */
+static uint64_t any_index(struct dice *dice, uint64_t control) {
+    uint64_t ring = UINT64_C(2) << (control >> SIZE_SHIFT & 15), wr = control >> WR_SHIFT & RD_BITS;
+    switch (below(dice, 4)) {
+    case 0: return wr;
+    case 1: return (wr + 1) % ring;
+    case 2: return below(dice, ring + 2);
+    default: return roll(dice) >> below(dice, 64);
+    }
+}
+
+void any_call(struct dice *dice, const struct input *input, enum which which, struct call *call) {
+    uint64_t rows = (input->words - 1) / 4;
+    memset(call, 0, sizeof *call);
+    call->which = which;
+    call->allowance = any_allowance(dice);
+    call->row = below(dice, rows + 1);
+    for (uint64_t tries = 0; tries < rows && below(dice, 8); tries++) { /* an empty row, if there is one */
+        if (call->row < rows && input->kept[1 + 4 * call->row] == 0) break;
+        call->row = (call->row + 1) % (rows + 1);
+    }
+    any_row(dice, (unsigned)below(dice, 4), below(dice, 4) != 0, call->w);
+    if (below(dice, 8) == 0) call->w[below(dice, 4)] ^= UINT64_C(1) << below(dice, 64);
+    if (below(dice, 32) == 0) call->w[0] = 0;
+    call->argument = which == ENABLE ? below(dice, 2) * roll(dice) : any_index(dice, input->kept[0]);
+    any_access(dice, &call->access);
+}

@@ -1,0 +1,54 @@
+# What the scripts of this folder share. Sourced, after the script has gone to the repository's root.
+
+stop() { # why
+    printf '%s: failed: %s\n' "$(basename "$0")" "$1" >&2
+    exit 1
+}
+
+need() { # tools
+    local tool
+    for tool in "$@"; do
+        command -v "$tool" >/dev/null 2>&1 || stop "the tool $tool is not there"
+    done
+}
+
+# The machine that an archive or object is for, as uname -m names it.
+machine_of() { # file
+    case $(readelf -h "$1" 2>/dev/null | grep -m 1 'Machine:') in
+    *X86-64*) echo x86_64 ;;
+    *AArch64*) echo aarch64 ;;
+    *) stop "$1 is for neither x86-64 nor AArch64" ;;
+    esac
+}
+
+# The name of a binary tool for a machine: the machine's own, or the cross one.
+tool_for() { # machine, tool
+    if [ "$1" = "$(uname -m)" ]; then echo "$2"; else echo "$1-linux-gnu-$2"; fi
+}
+
+# Compiles C for a machine. Not linked to shared libraries where it is another machine's, so that it runs with none of them here.
+compile_for() { # machine, arguments of the compiler
+    local machine=$1 compiler
+    local -a how=(-std=gnu11 -Wall -Wextra -Werror -O2 -Iinclude -Ibox)
+    shift
+    compiler=$(tool_for "$machine" gcc)
+    need "$compiler"
+    [ "$machine" = "$(uname -m)" ] || how+=(-static)
+    "$compiler" "${how[@]}" "$@"
+}
+
+run_on() { # machine, program and its arguments
+    local machine=$1
+    shift
+    if [ "$machine" = "$(uname -m)" ]; then "$@"; else "qemu-$machine" "$@"; fi
+}
+
+# The exported calls, in the header's order.
+calls() {
+    grep -o '\<tahvenno_[a-z]*(' include/tahvenno.h | tr -d '('
+}
+
+# What an archive wants of other libraries; nothing, if all is well.
+wanted_by() { # archive
+    nm -u "$1" | grep -v -e '^$' -e ':$'
+}

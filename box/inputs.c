@@ -1,0 +1,187 @@
+#include "inputs.h"
+
+#include <string.h>
+
+uint64_t roll(struct dice *dice) {
+    uint64_t mixed = dice->state += UINT64_C(0x9E3779B97F4A7C15);
+    mixed = (mixed ^ mixed >> 30) * UINT64_C(0xBF58476D1CE4E5B9);
+    mixed = (mixed ^ mixed >> 27) * UINT64_C(0x94D049BB133111EB);
+    return mixed ^ mixed >> 31;
+}
+
+uint64_t below(struct dice *dice, uint64_t limit) {
+    return roll(dice) % limit;
+}
+
+#define PICK(dice, pool) ((pool)[below((dice), sizeof(pool) / sizeof(pool)[0])])
+
+static const uint64_t STREAMS[] = {0, 1, 5, 0x40, 0x41, 0x100, 0x107, 0x3FF, 0x400, 0xFFFFFFFF};
+static const uint64_t SUBSTREAMS[] = {0, 1, 7, 0xFFFFF};
+static const uint64_t VMIDS[] = {0, 0, 1, 5, 0x105, 0xFFFF};
+static const uint64_t ASIDS[] = {0, 1, 0x34, 0x1234};
+static const uint64_t SPANS[] = {12, 12, 13, 21, 30, 39, 48};
+static const uint64_t PAGES[] = {0, 0x1000, 0x2000, 0x200000, 0x40000000, UINT64_C(0xFFFFFFFFFF000)};
+static const uint64_t TYPES[] = {0, 1, 2, 3, 5, 6, 7, 9, 10, 11, 13, 14, 15};
+static const uint64_t SHARES[] = {0, 2, 3};
+static const uint64_t CONFIGS[] = {0, 4, 5, 5, 6, 7, 7, 7};
+
+/* RA, WA and TR of the halves that are cacheable, the inner in bits 2:0. */
+static uint64_t hints_of(struct dice *dice, uint64_t memattr) {
+    uint64_t hints = below(dice, 64);
+    if ((memattr & 3) < 2 || memattr < 4) hints &= 0x38;
+    if (memattr >> 2 < 2) hints &= 7;
+    return hints;
+}
+
+static void ste_row(struct dice *dice, int last, uint64_t row[4]) {
+    static const uint64_t blocks[] = {6, 8, 10};
+    uint64_t stream = PICK(dice, STREAMS), span = PICK(dice, blocks);
+    if (last) {
+        uint64_t payload = below(dice, 2) | PICK(dice, TYPES) << 1 | below(dice, 1 << 10) << 5;
+        row[0] |= 8 | PICK(dice, VMIDS) << 16 | payload << 48;
+        row[1] = stream | PICK(dice, CONFIGS) << 52;
+    } else {
+        row[0] |= span << 5;
+        row[1] = stream >> span << span;
+    }
+}
+
+static void cd_row(struct dice *dice, int last, uint64_t row[4]) {
+    row[1] = PICK(dice, STREAMS);
+    if (last) {
+        row[0] |= 8 | PICK(dice, ASIDS) << 32;
+        row[1] |= PICK(dice, SUBSTREAMS) << 32;
+    }
+}
+
+static void stage_row(struct dice *dice, unsigned kind, int last, uint64_t row[4]) {
+    uint64_t span = PICK(dice, SPANS), memattr = PICK(dice, TYPES);
+    row[0] |= span << 5 | PICK(dice, VMIDS) << 16;
+    if (kind == 2) row[0] |= below(dice, 2) << 4 | PICK(dice, ASIDS) << 32;
+    row[2] = PICK(dice, PAGES) >> span << span;
+    if (last) {
+        uint64_t hints = kind == 2 ? hints_of(dice, memattr) : 0;
+        row[0] |= 8 | (memattr | PICK(dice, SHARES) << 4 | hints << 6) << 48;
+        row[3] = (below(dice, 4) ? PICK(dice, PAGES) : roll(dice) >> 12) >> span << span;
+    }
+}
+
+void any_row(struct dice *dice, unsigned kind, int last, uint64_t row[4]) {
+    memset(row, 0, 4 * sizeof row[0]);
+    row[0] = 1 | (uint64_t)kind << 1;
+    if (kind == 0) ste_row(dice, last, row);
+    else if (kind == 1) cd_row(dice, last, row);
+    else stage_row(dice, kind, last, row);
+}
+
+void put_command(uint8_t slot[16], uint64_t low, uint64_t high) {
+    for (int i = 0; i < 8; i++) {
+        slot[i] = (uint8_t)(low >> 8 * i);
+        slot[8 + i] = (uint8_t)(high >> 8 * i);
+    }
+}
+
+void any_command(struct dice *dice, uint8_t slot[16]) {
+    /* those that take few rows stand more often than the sweeping ones */
+    static const uint64_t codes[] = {0x01, 0x02, 0x03, 0x03, 0x04, 0x05, 0x05, 0x06, 0x10, 0x11, 0x11, 0x11,
+                                     0x12, 0x12, 0x12, 0x13, 0x13, 0x28, 0x2A, 0x2A, 0x2A, 0x30, 0x46, 0x46};
+    uint64_t code = PICK(dice, codes), low = 0, high = 0;
+    uint64_t stream = PICK(dice, STREAMS) << 32, vmid = PICK(dice, VMIDS) << 32, asid = PICK(dice, ASIDS) << 48;
+    uint64_t leaf = below(dice, 2), range = below(dice, 4) ? below(dice, 10) : below(dice, 32), page = PICK(dice, PAGES);
+    switch (code) {
+    case 0x01: case 0x02: low = roll(dice) & ~UINT64_C(0x4FF); high = roll(dice); break;
+    case 0x03: low = stream; high = leaf; break;
+    case 0x04: low = stream; high = range; break;
+    case 0x05: low = stream | PICK(dice, SUBSTREAMS) << 12; high = leaf; break;
+    case 0x06: low = stream; break;
+    case 0x10: case 0x28: low = vmid; break;
+    case 0x11: low = vmid | asid; break;
+    case 0x12: low = vmid | asid; high = page | leaf; break;
+    case 0x13: case 0x2A: low = vmid; high = page | leaf; break;
+    case 0x46: low = below(dice, 3) << 12; high = roll(dice); break;
+    }
+    put_command(slot, low | code, high);
+}
+
+void spoilt_command(struct dice *dice, uint8_t slot[16]) {
+    any_command(dice, slot);
+    if (below(dice, 2)) slot[0] = (uint8_t)roll(dice);
+    else slot[below(dice, 16)] ^= (uint8_t)(1u << below(dice, 8));
+}
+
+uint64_t control_word(uint64_t rd, uint64_t wr, uint64_t flags, uint64_t log2size) {
+    return rd | wr << WR_SHIFT | flags | log2size << SIZE_SHIFT;
+}
+
+static uint64_t any_control(struct dice *dice, uint64_t log2size) {
+    uint64_t slots = UINT64_C(1) << log2size, ring = 2 * slots, flags = 0;
+    uint64_t rd = below(dice, 3) ? below(dice, ring) : ring - 1;
+    uint64_t wait = below(dice, 2) ? slots : below(dice, slots + 1);
+    int active = below(dice, 10) == 0;
+    if (below(dice, 2)) flags |= GERROR | GERRORN;
+    if (active) flags ^= GERROR;
+    if (active || below(dice, 3) == 0) flags |= UINT64_C(1) << ERR_SHIFT;
+    if (below(dice, 10)) flags |= CMDQEN;
+    return control_word(rd, (rd + wait) % ring, flags, log2size);
+}
+
+static void fill_queue(struct dice *dice, struct input *input, uint64_t slots, uint64_t rarity) {
+    input->bytes = 16 * slots;
+    for (uint64_t slot = 0; slot < slots; slot++) {
+        if (below(dice, rarity)) any_command(dice, input->queue + 16 * slot);
+        else spoilt_command(dice, input->queue + 16 * slot);
+    }
+}
+
+void any_input(struct dice *dice, struct input *input, uint64_t rarity) {
+    uint64_t log2size = below(dice, below(dice, 8) ? 5 : 9), rows = 1 + below(dice, below(dice, 8) ? 24 : MOST_ROWS);
+    memset(input, 0, sizeof *input);
+    input->kept[0] = any_control(dice, log2size);
+    input->words = 1 + 4 * rows;
+    for (uint64_t row = 0; row < rows; row++) {
+        any_row(dice, (unsigned)below(dice, 4), below(dice, 4) != 0, input->kept + 1 + 4 * row);
+        if (below(dice, 6) == 0) input->kept[1 + 4 * row] = 0; /* an empty row keeps what once stood in its other words */
+    }
+    input->features = below(dice, 2) ? 15 : below(dice, 16);
+    fill_queue(dice, input, UINT64_C(1) << log2size, rarity);
+}
+
+void full_input(struct dice *dice, struct input *input, uint64_t rarity) {
+    memset(input, 0, sizeof *input);
+    input->kept[0] = control_word(0x1FF, 0xFF, CMDQEN, 8); /* the index wraps after the first command */
+    input->words = MOST_WORDS;
+    for (uint64_t row = 0; row < MOST_ROWS; row++)
+        any_row(dice, (unsigned)below(dice, 4), below(dice, 4) != 0, input->kept + 1 + 4 * row);
+    input->features = 15;
+    fill_queue(dice, input, MOST_SLOTS, rarity);
+}
+
+void damage(struct dice *dice, struct input *input) {
+    uint64_t row = below(dice, (input->words - 1) / 4), at = 1 + 4 * row;
+    switch (below(dice, 8)) {
+    case 0: input->words += 1 + below(dice, 6); break;
+    case 1: input->words -= 1 + below(dice, 4); break;
+    case 2: case 3: input->kept[0] ^= UINT64_C(1) << below(dice, 64); break;
+    case 4: input->kept[at] ^= UINT64_C(1) << below(dice, 64); break;
+    case 5: input->kept[at + below(dice, 4)] = roll(dice); break;
+    case 6: input->kept[at] = (input->kept[at] & ~UINT64_C(0x7E0)) | below(dice, 64) << 5; break;
+    case 7: input->bytes += below(dice, 2) ? 16 : UINT64_C(0) - 1; break;
+    }
+}
+
+void any_access(struct dice *dice, struct access *access) {
+    access->stream = (uint32_t)PICK(dice, STREAMS);
+    access->substream = (uint32_t)PICK(dice, SUBSTREAMS);
+    if (below(dice, 16) == 0) access->substream = (uint32_t)roll(dice);
+    access->address = PICK(dice, PAGES) + below(dice, 0x3000);
+    if (below(dice, 16) == 0) access->address = roll(dice);
+    access->how = below(dice, 8);
+    access->memattr = PICK(dice, TYPES);
+    access->sh = PICK(dice, SHARES);
+    access->hints = hints_of(dice, access->memattr);
+    switch (below(dice, 24)) { /* now and then refusal 10 */
+    case 0: access->memattr = roll(dice) >> below(dice, 64); break;
+    case 1: access->sh = roll(dice) >> below(dice, 64); break;
+    case 2: access->hints = roll(dice) >> below(dice, 64); break;
+    }
+}

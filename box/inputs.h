@@ -1,0 +1,62 @@
+/* Inputs for the tests of the compiled unit: images, queues and calls from repeatable random numbers, made from the layout that
+ * document 01 gives. Nothing here comes from the unit. Identifiers come from small pools, so that rows and commands meet. */
+#ifndef INPUTS_H
+#define INPUTS_H
+
+#include <stddef.h>
+#include <stdint.h>
+
+enum { MOST_ROWS = 128, MOST_WORDS = 1 + 4 * MOST_ROWS, ROOM = MOST_WORDS + 7, MOST_SLOTS = 256 };
+
+/* Parts of the control word. */
+#define RD_BITS UINT64_C(0xFFFFF)
+#define WR_SHIFT 20
+#define ERR_SHIFT 40
+#define GERROR (UINT64_C(1) << 47)
+#define GERRORN (UINT64_C(1) << 48)
+#define CMDQEN (UINT64_C(1) << 49)
+#define SIZE_SHIFT 50
+
+struct dice {
+    uint64_t state;
+};
+
+/* Kept memory, the queue that it asks for, and features. `kept` has room for damage to add words. */
+struct input {
+    uint64_t kept[ROOM];
+    size_t words;
+    uint8_t queue[16 * MOST_SLOTS + 16];
+    size_t bytes;
+    uint64_t features;
+};
+
+struct access {
+    uint32_t stream, substream;
+    uint64_t address, how, memattr, sh, hints;
+};
+
+uint64_t roll(struct dice *dice);
+uint64_t below(struct dice *dice, uint64_t limit);
+
+/* The four words of a well-formed row: kind 0 to 3, last-level or not. */
+void any_row(struct dice *dice, unsigned kind, int last, uint64_t row[4]);
+
+/* A command of 16 bytes; the second may have a wrong bit or code. */
+void any_command(struct dice *dice, uint8_t slot[16]);
+void spoilt_command(struct dice *dice, uint8_t slot[16]);
+void put_command(uint8_t slot[16], uint64_t low, uint64_t high);
+
+uint64_t control_word(uint64_t rd, uint64_t wr, uint64_t flags, uint64_t log2size);
+
+/* An accepted image with its queue; about one command in `rarity` is spoilt. */
+void any_input(struct dice *dice, struct input *input, uint64_t rarity);
+
+/* Every row used, every slot waiting, and the queue enabled. */
+void full_input(struct dice *dice, struct input *input, uint64_t rarity);
+
+/* Makes an image or a queue wrong in one of many ways, some of which are none. */
+void damage(struct dice *dice, struct input *input);
+
+void any_access(struct dice *dice, struct access *access);
+
+#endif

@@ -1,0 +1,259 @@
+/* stores [SEED [ROUNDS]]: the stores of the compiled unit, one by one, against the order that document 01 gives.
+ *
+ * What a run has to store is read from what it leaves at allowance 0, 1, 2 and so on: one word differs each time, since clearing a
+ * used row, moving RD and flipping GERROR all change the word. What a fill and a control call have to store is in their words. Every
+ * call is then made on watched memory, and word, value, order and number of the stores that are seen have to be those; a call that
+ * is refused, a transaction and the state have to store nothing. Ends with 1 at the first difference, and where a kind of store
+ * never came up. */
+#include <inttypes.h>
+#include <stdarg.h>
+#include <stdio.h>
+#include <stdlib.h>
+#include <string.h>
+
+#include "call.h"
+#include "tahvenno.h"
+#include "watch.h"
+
+static uint64_t seed = 1;
+
+static struct {
+    uint64_t calls, stores, runs, cut, removed, consumed, raised, several, off, held, empty;
+    uint64_t fills, cut_fills, same_words, same_controls, refused[CALLS], done[CALLS];
+} seen;
+
+static void fail(const char *what, ...) {
+    va_list rest;
+    va_start(rest, what);
+    printf("stores: ");
+    vprintf(what, rest);
+    printf(" (seed %" PRIu64 ")\n", seed);
+    va_end(rest);
+    exit(1);
+}
+
+struct watched_call {
+    const struct call *call;
+    const struct input *input;
+    struct outcome outcome;
+};
+
+static void make_watched(void *given) {
+    struct watched_call *watched = given;
+    make_call(watched->call, watched->input, watch_kept(), watch_queue(), &watched->outcome);
+}
+
+static void compare_stores(const char *name, const struct trace *trace, const struct store *expected, size_t count) {
+    for (size_t i = 0; i < trace->count && i < count; i++) {
+        const struct store *is = &trace->stores[i];
+        if (is->word != expected[i].word || is->value != expected[i].value)
+            fail("%s: store %zu puts %" PRIx64 " in word %zu, and should put %" PRIx64 " in word %zu", name, i + 1, is->value, is->word,
+                 expected[i].value, expected[i].word);
+    }
+    if (trace->complaint[0]) fail("%s: after %zu stores: %s", name, trace->count, trace->complaint);
+    if (trace->count != count) fail("%s: %zu stores, and should be %zu", name, trace->count, count);
+}
+
+/* Makes a call on plain memory and on watched memory, at both alignments to 16 bytes: the same outcome, the same memory, and the
+ * expected stores. */
+static void check_call(const struct input *input, const struct call *call, const struct store *expected, size_t count) {
+    const char *name = CALL_NAMES[call->which];
+    uint64_t plain[ROOM];
+    struct outcome outcome;
+    memcpy(plain, input->kept, sizeof plain);
+    make_call(call, input, plain, input->queue, &outcome);
+    for (size_t shift = 0; shift < 2; shift++) {
+        struct watched_call watched = {.call = call, .input = input};
+        watch_load(input, shift);
+        const struct trace *trace = watch(make_watched, &watched);
+        compare_stores(name, trace, expected, count);
+        if (memcmp(&watched.outcome, &outcome, sizeof outcome)) fail("%s: another outcome on watched memory", name);
+        if (memcmp(watch_kept(), plain, 8 * input->words)) fail("%s: other memory where it is watched", name);
+        seen.calls++;
+        seen.stores += trace->count;
+    }
+}
+
+/* The stores that a run has to make, from the memory at each allowance. */
+static size_t run_stores(const struct input *input, struct store *expected, struct outcome *last) {
+    struct call call = {.which = RUN};
+    uint64_t before[ROOM], after[ROOM];
+    size_t count = 0;
+    memcpy(before, input->kept, sizeof before);
+    for (call.allowance = 0;; call.allowance++) {
+        size_t differ = 0, word = 0;
+        memcpy(after, input->kept, sizeof after);
+        make_call(&call, input, after, input->queue, last);
+        if (last->returned) fail("run: refusal %" PRIu64 " of an image that is well formed", last->returned);
+        for (size_t i = 0; i < input->words; i++)
+            if (before[i] != after[i]) differ++, word = i;
+        if (differ != (call.allowance != 0 && count < last->answer[2])) fail("run: %zu words differ at allowance %" PRIu64, differ, call.allowance);
+        if (differ) expected[count++] = (struct store){word, after[word]};
+        if (count != last->answer[2]) fail("run: %zu stores, reported %" PRIu64, count, last->answer[2]);
+        if (last->answer[0] != TAHVENNO_CUT) return count;
+        if (count == MOST_STORES) fail("run: no end");
+        memcpy(before, after, sizeof before);
+    }
+}
+
+/* Document 01's order, with no look at what a command is about: rows from the lowest up are cleared, then RD goes forward by one;
+ * or the error is raised, and that is the last. */
+static void check_order(const struct input *input, const struct store *stores, size_t count, uint64_t end) {
+    uint64_t kept[ROOM], control, ring, moved, raised;
+    size_t lowest = 1, rows = 0;
+    memcpy(kept, input->kept, sizeof kept);
+    for (size_t i = 0; i < count; i++) {
+        const struct store *store = &stores[i];
+        control = kept[0];
+        ring = UINT64_C(2) << (control >> SIZE_SHIFT);
+        moved = (control & ~RD_BITS) | ((control & RD_BITS) + 1) % ring;
+        raised = (control ^ GERROR) | UINT64_C(1) << ERR_SHIFT;
+        if (store->word) {
+            if (store->word % 4 != 1 || store->value || !kept[store->word] || store->word < lowest)
+                fail("run: store %zu is no clearing of a higher row: word %zu", i + 1, store->word);
+            lowest = store->word + 4;
+            rows++;
+        } else if (store->value == moved) {
+            seen.several += rows > 1;
+            seen.removed += rows;
+            seen.consumed++;
+            rows = 0, lowest = 1;
+        } else if (store->value != raised || rows || i + 1 != count || end != TAHVENNO_RAISED) {
+            fail("run: store %zu puts %" PRIx64 " over control word %" PRIx64, i + 1, store->value, control);
+        }
+        kept[store->word] = store->value;
+    }
+    if (rows) fail("run: rows were cleared and RD did not move");
+}
+
+/* A run at every allowance up to one more than it needs, and at the largest. */
+static void check_run(const struct input *input) {
+    static struct store expected[MOST_STORES];
+    struct outcome last;
+    struct call call = {.which = RUN};
+    size_t count = run_stores(input, expected, &last);
+    check_order(input, expected, count, last.answer[0]);
+    for (call.allowance = 0; call.allowance < count; call.allowance++) check_call(input, &call, expected, call.allowance);
+    seen.cut += count;
+    check_call(input, &call, expected, count);
+    call.allowance++;
+    check_call(input, &call, expected, count);
+    call.allowance = UINT64_MAX;
+    check_call(input, &call, expected, count);
+    seen.runs++;
+    seen.off += last.answer[0] == TAHVENNO_OFF;
+    seen.held += last.answer[0] == TAHVENNO_HELD;
+    seen.empty += last.answer[0] == TAHVENNO_EMPTY;
+    seen.raised += last.answer[0] == TAHVENNO_RAISED;
+}
+
+static void check_runs(struct dice *dice, int full, int random) {
+    static struct input input;
+    for (int i = 0; i < full; i++) {
+        full_input(dice, &input, 1000);
+        check_run(&input);
+    }
+    full_input(dice, &input, 1000); /* only moves of RD, which a compiler might gather */
+    for (size_t slot = 0; slot < MOST_SLOTS; slot++) put_command(input.queue + 16 * slot, 0x1046, 0);
+    check_run(&input);
+    input.words = 5;
+    check_run(&input);
+    full_input(dice, &input, 1000); /* one command that takes every stage row */
+    put_command(input.queue + 16 * 255, 0x30, 0);
+    check_run(&input);
+    for (int i = 0; i < random; i++) {
+        any_input(dice, &input, 1 + below(dice, 64));
+        check_run(&input);
+    }
+}
+
+/* A fill at each allowance, into a row whose other words hold some of the new ones already. */
+static void check_fill(struct dice *dice, struct input *input, unsigned kind, int last, unsigned same) {
+    static const uint64_t allowances[] = {0, 1, 2, 3, 4, 5, UINT64_MAX};
+    struct call call = {.which = FILL, .row = below(dice, (input->words - 1) / 4)};
+    uint64_t *row = input->kept + 1 + 4 * call.row;
+    struct store expected[4];
+    any_row(dice, kind, last, call.w);
+    row[0] = 0;
+    for (size_t i = 1; i < 4; i++) row[i] = same >> i & 1 ? call.w[i] : ~call.w[i];
+    for (size_t i = 0; i < 4; i++) expected[i] = (struct store){1 + 4 * call.row + (i + 1) % 4, call.w[(i + 1) % 4]};
+    for (size_t i = 0; i < sizeof allowances / sizeof allowances[0]; i++) {
+        call.allowance = allowances[i];
+        size_t count = call.allowance < 4 ? call.allowance : 4;
+        check_call(input, &call, expected, count);
+        for (size_t store = 0; store < count; store++) seen.same_words += same >> (store + 1) % 4 & 1;
+        seen.fills++;
+        seen.cut_fills += count < 4;
+    }
+}
+
+static void check_fills(struct dice *dice, int rounds) {
+    static struct input input;
+    for (int i = 0; i < rounds; i++)
+        for (unsigned kind = 0; kind < 4; kind++)
+            for (unsigned same = 0; same < 16; same += 2) {
+                any_input(dice, &input, 8);
+                check_fill(dice, &input, kind, i % 2, same);
+            }
+}
+
+/* The control word that a control call has to store. */
+static uint64_t control_after(const struct call *call, uint64_t control) {
+    if (call->which == DOORBELL) return (control & ~(RD_BITS << WR_SHIFT)) | call->argument << WR_SHIFT;
+    if (call->which == ACKNOWLEDGE) return (control & ~GERRORN) | (control & GERROR) << 1;
+    return call->argument ? control | CMDQEN : control & ~CMDQEN;
+}
+
+/* Every call but runs and fills of accepted images: one control store if it is carried out, none if it is refused or only reads. */
+static void check_others(struct dice *dice, int rounds) {
+    static struct input input;
+    struct call call;
+    struct outcome outcome;
+    uint64_t plain[ROOM];
+    for (int i = 0; i < rounds; i++) {
+        enum which which = (enum which)(i % CALLS);
+        any_input(dice, &input, 8);
+        any_call(dice, &input, which, &call);
+        if (below(dice, 3) == 0) damage(dice, &input);
+        memcpy(plain, input.kept, sizeof plain);
+        make_call(&call, &input, plain, input.queue, &outcome);
+        if (!outcome.returned && which <= FILL) continue;
+        struct store store = {0, control_after(&call, input.kept[0])};
+        int stores = !outcome.returned && which <= ENABLE;
+        check_call(&input, &call, &store, (size_t)stores);
+        seen.refused[which] += outcome.returned != 0;
+        seen.done[which] += outcome.returned == 0;
+        seen.same_controls += stores && store.value == input.kept[0];
+    }
+}
+
+static void report(void) {
+    printf("stores: %" PRIu64 " watched calls, %" PRIu64 " stores, each where and when it is due\n", seen.calls, seen.stores);
+    printf("stores: %" PRIu64 " runs (%" PRIu64 " off, %" PRIu64 " held, %" PRIu64 " empty, %" PRIu64 " raised) at %" PRIu64
+           " allowances that cut: %" PRIu64 " rows removed, %" PRIu64 " commands consumed, %" PRIu64 " of them with several rows\n",
+           seen.runs, seen.off, seen.held, seen.empty, seen.raised, seen.cut, seen.removed, seen.consumed, seen.several);
+    printf("stores: %" PRIu64 " fills, %" PRIu64 " of them cut, with %" PRIu64 " words that were there already\n", seen.fills,
+           seen.cut_fills, seen.same_words);
+    for (enum which which = RUN; which < CALLS; which++) {
+        if (which > FILL) printf("stores: %s: %" PRIu64 " carried out, ", CALL_NAMES[which], seen.done[which]);
+        else seen.done[which] = 1, printf("stores: %s: ", CALL_NAMES[which]);
+        printf("%" PRIu64 " refused\n", seen.refused[which]);
+    }
+    printf("stores: %" PRIu64 " control calls stored what was there already\n", seen.same_controls);
+    const uint64_t *counts = (const uint64_t *)&seen;
+    for (size_t i = 0; i < sizeof seen / sizeof *counts; i++)
+        if (counts[i] == 0) fail("a kind of store or end never came up: counter %zu", i);
+}
+
+int main(int argc, char **argv) {
+    struct dice dice;
+    int rounds = argc > 2 ? atoi(argv[2]) : 8;
+    if (argc > 1) seed = strtoull(argv[1], NULL, 0);
+    dice.state = seed;
+    watch_start();
+    check_fills(&dice, rounds);
+    check_others(&dice, 2000 * rounds);
+    check_runs(&dice, rounds, 80 * rounds);
+    report();
+    return 0;
+}

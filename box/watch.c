@@ -1,0 +1,85 @@
+#define _GNU_SOURCE
+#include "watch.h"
+
+#include <setjmp.h>
+#include <signal.h>
+#include <stdio.h>
+#include <stdlib.h>
+#include <string.h>
+#include <sys/mman.h>
+#include <unistd.h>
+
+/* Kept memory begins on the second page; what lies before and after it is watched too. The queue has the last pages. */
+enum { PAGE = 4096, KEPT_AT = PAGE, QUEUE_AT = 4 * PAGE, WHOLE = 6 * PAGE };
+
+static unsigned char *lent, *written; /* the same memory, read-only and writable */
+static size_t kept_at, kept_words;
+static struct trace trace;
+static sigjmp_buf leave;
+static volatile sig_atomic_t watching;
+
+static void give_up(const char *what) {
+    perror(what);
+    exit(2);
+}
+
+static void complain(const char *why, size_t offset, const unsigned char *code) {
+    int at = snprintf(trace.complaint, sizeof trace.complaint, "%s, byte %zd of kept memory, instruction", why,
+                      (ptrdiff_t)(offset - kept_at));
+    for (int i = 0; i < 8; i++) at += snprintf(trace.complaint + at, sizeof trace.complaint - (size_t)at, " %02x", code[i]);
+    siglongjmp(leave, 1);
+}
+
+static void on_fault(int signal_number, siginfo_t *info, void *context) {
+    size_t offset = (size_t)((unsigned char *)info->si_addr - lent);
+    const unsigned char *code = instruction_at(context);
+    struct decoded store;
+    if (!watching || offset >= WHOLE) { /* no business of this handler: the fault comes again and ends the process */
+        signal(signal_number, SIG_DFL);
+        return;
+    }
+    if (offset >= QUEUE_AT) complain("a store to the queue", offset, code);
+    if (!decode_store(context, &store)) complain("not a plain 64-bit store", offset, code);
+    if (store.address != (uintptr_t)info->si_addr) complain("decoded and faulting address differ", offset, code);
+    if (offset < kept_at || (offset - kept_at) % 8 || (offset - kept_at) / 8 >= kept_words)
+        complain("not a word of kept memory", offset, code);
+    if (trace.count == MOST_STORES) complain("stores without end", offset, code);
+    trace.stores[trace.count++] = (struct store){(offset - kept_at) / 8, store.value};
+    memcpy(written + offset, &store.value, 8);
+}
+
+void watch_start(void) {
+    struct sigaction action = {.sa_sigaction = on_fault, .sa_flags = SA_SIGINFO};
+    int memory = memfd_create("kept", 0);
+    if (memory < 0 || ftruncate(memory, WHOLE)) give_up("memfd");
+    lent = mmap(NULL, WHOLE, PROT_READ, MAP_SHARED, memory, 0);
+    written = mmap(NULL, WHOLE, PROT_READ | PROT_WRITE, MAP_SHARED, memory, 0);
+    if (lent == MAP_FAILED || written == MAP_FAILED) give_up("mmap");
+    if (sigaction(SIGSEGV, &action, NULL)) give_up("sigaction");
+}
+
+void watch_load(const struct input *input, size_t shift) {
+    kept_at = KEPT_AT + 8 * shift;
+    kept_words = input->words;
+    memcpy(written + kept_at, input->kept, 8 * input->words);
+    memcpy(written + QUEUE_AT, input->queue, sizeof input->queue);
+}
+
+uint64_t *watch_kept(void) {
+    return (uint64_t *)(void *)(lent + kept_at);
+}
+
+const uint8_t *watch_queue(void) {
+    return lent + QUEUE_AT;
+}
+
+const struct trace *watch(void (*call)(void *), void *argument) {
+    trace.count = 0;
+    trace.complaint[0] = 0;
+    if (!sigsetjmp(leave, 1)) {
+        watching = 1;
+        call(argument);
+    }
+    watching = 0;
+    return &trace;
+}

@@ -1,0 +1,191 @@
+/* Units whose stores are wrong, to show that box/stores refuses them. No part of the unit.
+ *
+ * The linker puts these functions before the unit's (--wrap), and TAHVENNO_WRONG names the fault. Each asks the unit on a copy what
+ * is to be stored, and then makes the stores its own way: so answers are right, mostly memory too, and only the stores tell. Without
+ * a fault they are right as well, and box/stores has to accept them. */
+#include <stdlib.h>
+#include <string.h>
+
+#include "inputs.h"
+#include "tahvenno.h"
+
+typedef uint64_t pair __attribute__((vector_size(16), aligned(8)));
+typedef volatile uint64_t word;
+
+struct due {
+    size_t word;
+    uint64_t value;
+};
+
+static int fault(const char *name) {
+    const char *chosen = getenv("TAHVENNO_WRONG");
+    return chosen && strcmp(chosen, name) == 0;
+}
+
+static void store(uint64_t *kept, size_t at, uint64_t value) {
+    *(word *)&kept[at] = value;
+}
+
+static void in_halves(uint64_t *kept, size_t at, uint64_t value) {
+    volatile uint32_t *halves = (volatile uint32_t *)(void *)&kept[at];
+    halves[0] = (uint32_t)value;
+    halves[1] = (uint32_t)(value >> 32);
+}
+
+static void both(uint64_t *kept, size_t at, uint64_t low, uint64_t high) {
+#ifdef __aarch64__
+    if (fault("fill-paired")) { /* two words by one instruction, of general registers */
+        __asm__ volatile("stp %1, %2, %0" : "=Ump"(*(pair *)(void *)&kept[at]) : "r"(low), "r"(high) : "memory");
+        return;
+    }
+#endif
+    *(volatile pair *)(void *)&kept[at] = (pair){low, high};
+}
+
+static void swap(struct due *one, struct due *other) {
+    struct due held = *one;
+    *one = *other;
+    *other = held;
+}
+
+/* What a run stores: the unit makes one store a call on a copy, and the copy tells which. */
+uint64_t __real_tahvenno_run(uint64_t *, size_t, const uint8_t *, size_t, uint64_t, uint64_t, uint64_t *);
+static size_t stores_of(const uint64_t *kept, size_t words, const uint8_t *queue, size_t bytes, uint64_t features, uint64_t most,
+                        struct due *due) {
+    static uint64_t copy[ROOM], before[ROOM];
+    uint64_t answer[8];
+    size_t count = 0;
+    memcpy(copy, kept, 8 * words);
+    while (count < most) {
+        memcpy(before, copy, 8 * words);
+        __real_tahvenno_run(copy, words, queue, bytes, features, 1, answer);
+        if (answer[2] == 0) break;
+        for (size_t i = 0; i < words; i++)
+            if (before[i] != copy[i]) due[count] = (struct due){i, copy[i]};
+        count++;
+    }
+    return count;
+}
+
+/* Puts a wrong order on what a run stores. */
+static void reorder(struct due *due, size_t count) {
+    for (size_t i = 1; i < count; i++) {
+        int rows = due[i - 1].word && due[i].word;
+        if (fault("run-rows-swapped") && rows) {
+            swap(&due[i - 1], &due[i]);
+            return;
+        }
+        if (fault("run-rd-first") && due[i - 1].word && !due[i].word)
+            for (size_t k = i; k > 0 && due[k - 1].word; k--) swap(&due[k - 1], &due[k]);
+    }
+}
+
+static void store_run(uint64_t *kept, const struct due *due, size_t count) {
+    size_t last = count;
+    while (last > 0 && due[last - 1].word) last--;
+    for (size_t i = 0; i < count; i++) {
+        if (fault("run-rd-gathered") && i + 1 < last && !due[i].word) continue;
+        if (fault("run-in-halves")) in_halves(kept, due[i].word, due[i].value);
+        else if (fault("run-rd-narrow") && !due[i].word) *(volatile uint32_t *)(void *)kept = (uint32_t)due[i].value;
+        else store(kept, due[i].word, due[i].value);
+        if (fault("run-doubled")) store(kept, due[i].word, due[i].value);
+    }
+}
+
+/* As a unit that works on a copy would, from word 0 up. */
+static void write_back(uint64_t *kept, size_t words, const struct due *due, size_t count) {
+    for (size_t at = 0; at < words; at++)
+        for (size_t i = count; i-- > 0;)
+            if (due[i].word == at) {
+                store(kept, at, due[i].value);
+                break;
+            }
+}
+
+uint64_t __wrap_tahvenno_run(uint64_t *kept, size_t words, const uint8_t *queue, size_t bytes, uint64_t features,
+                             uint64_t allowance, uint64_t answer[8]) {
+    static struct due due[4096];
+    static uint64_t copy[ROOM];
+    memcpy(copy, kept, 8 * words);
+    uint64_t returned = __real_tahvenno_run(copy, words, queue, bytes, features, allowance, answer);
+    if (returned) {
+        if (fault("refusal-stores")) store(kept, 0, kept[0]);
+        return returned;
+    }
+    size_t count = stores_of(kept, words, queue, bytes, features, answer[2], due);
+    reorder(due, count);
+    if (fault("run-queue")) *(volatile uint8_t *)(uintptr_t)queue = *queue;
+    if (fault("run-beyond")) store(kept, words, 0);
+    if (fault("run-written-back")) write_back(kept, words, due, count);
+    else store_run(kept, due, count);
+    return 0;
+}
+
+static void store_fill(uint64_t *row, const uint64_t w[4], uint64_t count) {
+    static const size_t right[4] = {1, 2, 3, 0}, first[4] = {0, 1, 2, 3}, swapped[4] = {2, 1, 3, 0};
+    const size_t *order = fault("fill-word-0-first") ? first : fault("fill-swapped") ? swapped : right;
+    if ((fault("fill-merged") || fault("fill-paired")) && count == 4) {
+        both(row, 1, w[1], w[2]);
+        store(row, 3, w[3]);
+        store(row, 0, w[0]);
+        return;
+    }
+    for (uint64_t i = 0; i < count; i++) {
+        size_t at = order[i];
+        if (fault("fill-sparing") && row[at] == w[at]) continue;
+        if (fault("fill-in-halves") && at == 3) in_halves(row, at, w[at]);
+        else store(row, at, w[at]);
+        if (fault("fill-doubled") && at == 0) store(row, at, w[at]);
+    }
+}
+
+uint64_t __real_tahvenno_fill(uint64_t *, size_t, uint64_t, uint64_t, uint64_t, uint64_t, uint64_t, uint64_t, uint64_t *);
+uint64_t __wrap_tahvenno_fill(uint64_t *kept, size_t words, uint64_t row, uint64_t w0, uint64_t w1, uint64_t w2, uint64_t w3,
+                              uint64_t allowance, uint64_t answer[8]) {
+    static uint64_t copy[ROOM];
+    memcpy(copy, kept, 8 * words);
+    uint64_t returned = __real_tahvenno_fill(copy, words, row, w0, w1, w2, w3, allowance, answer);
+    if (!returned) store_fill(kept + 1 + 4 * row, (const uint64_t[4]){w0, w1, w2, w3}, answer[1]);
+    return returned;
+}
+
+static void store_control(uint64_t *kept, uint64_t value) {
+    if (fault("control-sparing") && kept[0] == value) return;
+    if (fault("control-byte")) {
+        ((volatile uint8_t *)kept)[6] = (uint8_t)(value >> 48);
+        return;
+    }
+    if (fault("control-adding")) {
+#ifdef __x86_64__
+        __asm__ volatile("addq %1, %0" : "+m"(kept[0]) : "r"(value - kept[0]) : "memory");
+        return;
+#else
+        store(kept, 0, 0);
+#endif
+    }
+    if (fault("control-twice")) store(kept, 0, value & ~CMDQEN);
+    store(kept, 0, value);
+}
+
+/* A control call on a copy of the control word and rows, then the control word stored. */
+#define CONTROL(name, parameters, arguments)                                                                                     \
+    uint64_t __real_tahvenno_##name parameters;                                                                                  \
+    uint64_t __wrap_tahvenno_##name parameters {                                                                                 \
+        static uint64_t copy[ROOM];                                                                                              \
+        uint64_t *lent = kept;                                                                                                   \
+        memcpy(copy, lent, 8 * words);                                                                                           \
+        kept = copy;                                                                                                             \
+        uint64_t returned = __real_tahvenno_##name arguments;                                                                    \
+        if (!returned) store_control(lent, copy[0]);                                                                             \
+        return returned;                                                                                                         \
+    }
+
+CONTROL(doorbell, (uint64_t *kept, size_t words, uint64_t wr, uint64_t answer[8]), (kept, words, wr, answer))
+CONTROL(acknowledge, (uint64_t *kept, size_t words, uint64_t answer[8]), (kept, words, answer))
+CONTROL(enable, (uint64_t *kept, size_t words, uint64_t on, uint64_t answer[8]), (kept, words, on, answer))
+
+uint64_t __real_tahvenno_state(const uint64_t *, size_t, uint64_t *);
+uint64_t __wrap_tahvenno_state(const uint64_t *kept, size_t words, uint64_t answer[8]) {
+    if (fault("state-stores") && words) store((uint64_t *)(uintptr_t)kept, words - 1, kept[words - 1]);
+    return __real_tahvenno_state(kept, words, answer);
+}
