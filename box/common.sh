@@ -52,3 +52,14 @@ calls() {
 wanted_by() { # archive
     nm -u "$1" | grep -v -e '^$' -e ':$'
 }
+
+# The kit's folder: RATTLE_HOME, or the one above the folder where rt really is.
+kit_folder() {
+    local script
+    if [ -n "${RATTLE_HOME:-}" ]; then
+        echo "$RATTLE_HOME"
+    else
+        script=$(readlink -f "$(command -v rt)") || stop "rt leads nowhere"
+        dirname "$(dirname "$script")"
+    fi
+}
