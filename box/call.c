@@ -32,7 +32,7 @@ static uint64_t any_allowance(struct dice *dice) {
     switch (below(dice, 4)) {
     case 0: return below(dice, 6);
     case 1: return below(dice, 60);
-    case 2: return roll(dice) << 32 | below(dice, 6);
+    case 2: return roll(dice) << 32;
     default: return UINT64_MAX;
     }
 }
@@ -44,7 +44,22 @@ static uint64_t any_index(struct dice *dice, uint64_t control) {
     case 0: return wr;
     case 1: return (wr + 1) % ring;
     case 2: return below(dice, ring + 2);
-    default: return roll(dice) >> below(dice, 64);
+    default: return any_width(dice);
+    }
+}
+
+/* Aims an access at last-level rows of the image: an STE row's stream, a CD row of that stream, a stage row's address. */
+static void aim(struct dice *dice, const struct input *input, struct access *access) {
+    uint64_t rows = (input->words - 1) / 4, first = below(dice, rows + 1);
+    unsigned found = 0;
+    for (uint64_t i = 0; i < 3 * rows; i++) {
+        const uint64_t *row = input->kept + 1 + 4 * ((first + i) % rows);
+        unsigned kind = row[0] >> 1 & 3;
+        if ((row[0] & 9) != 9 || found >> kind & 1 || (kind == 1 && (uint32_t)row[1] != access->stream)) continue;
+        if (kind == 0) access->stream = (uint32_t)row[1];
+        else if (kind == 1) access->substream = row[1] >> 32 & 0xFFFFF;
+        else access->address = row[2] + (access->address & 0xFFF);
+        found |= kind < 2 ? 1u << kind : 12;
     }
 }
 
@@ -58,9 +73,12 @@ void any_call(struct dice *dice, const struct input *input, enum which which, st
         if (call->row < rows && input->kept[1 + 4 * call->row] == 0) break;
         call->row = (call->row + 1) % (rows + 1);
     }
-    any_row(dice, (unsigned)below(dice, 4), below(dice, 4) != 0, call->w);
-    if (below(dice, 8) == 0) call->w[below(dice, 4)] ^= UINT64_C(1) << below(dice, 64);
+    some_row(dice, call->w);
+    uint64_t spoil = below(dice, 8), word = below(dice, 4), bit = below(dice, 64);
+    if (spoil == 0) call->w[word] ^= UINT64_C(1) << bit;
     if (below(dice, 32) == 0) call->w[0] = 0;
-    call->argument = which == ENABLE ? below(dice, 2) * roll(dice) : any_index(dice, input->kept[0]);
+    if (which != ENABLE) call->argument = any_index(dice, input->kept[0]);
+    else if (below(dice, 2)) call->argument = roll(dice);
     any_access(dice, &call->access);
+    if (below(dice, 4)) aim(dice, input, &call->access);
 }

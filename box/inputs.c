@@ -1,3 +1,4 @@
+/* No expression rolls twice but in a fixed order, so that every compiler makes the same inputs. */
 #include "inputs.h"
 
 #include <string.h>
@@ -11,6 +12,11 @@ uint64_t roll(struct dice *dice) {
 
 uint64_t below(struct dice *dice, uint64_t limit) {
     return roll(dice) % limit;
+}
+
+uint64_t any_width(struct dice *dice) {
+    uint64_t shift = below(dice, 64);
+    return roll(dice) >> shift;
 }
 
 #define PICK(dice, pool) ((pool)[below((dice), sizeof(pool) / sizeof(pool)[0])])
@@ -37,8 +43,9 @@ static void ste_row(struct dice *dice, int last, uint64_t row[4]) {
     static const uint64_t blocks[] = {6, 8, 10};
     uint64_t stream = PICK(dice, STREAMS), span = PICK(dice, blocks);
     if (last) {
-        uint64_t payload = below(dice, 2) | PICK(dice, TYPES) << 1 | below(dice, 1 << 10) << 5;
-        row[0] |= 8 | PICK(dice, VMIDS) << 16 | payload << 48;
+        uint64_t take = below(dice, 2), memattr = PICK(dice, TYPES), others = below(dice, 1 << 10);
+        row[0] |= 8 | (take | memattr << 1 | others << 5) << 48;
+        row[0] |= PICK(dice, VMIDS) << 16;
         row[1] = stream | PICK(dice, CONFIGS) << 52;
     } else {
         row[0] |= span << 5;
@@ -55,15 +62,21 @@ static void cd_row(struct dice *dice, int last, uint64_t row[4]) {
 }
 
 static void stage_row(struct dice *dice, unsigned kind, int last, uint64_t row[4]) {
-    uint64_t span = PICK(dice, SPANS), memattr = PICK(dice, TYPES);
+    uint64_t span = PICK(dice, SPANS), memattr = PICK(dice, TYPES), global = below(dice, 2), asid = PICK(dice, ASIDS);
     row[0] |= span << 5 | PICK(dice, VMIDS) << 16;
-    if (kind == 2) row[0] |= below(dice, 2) << 4 | PICK(dice, ASIDS) << 32;
+    if (kind == 2) row[0] |= global << 4 | asid << 32;
     row[2] = PICK(dice, PAGES) >> span << span;
     if (last) {
         uint64_t hints = kind == 2 ? hints_of(dice, memattr) : 0;
         row[0] |= 8 | (memattr | PICK(dice, SHARES) << 4 | hints << 6) << 48;
         row[3] = (below(dice, 4) ? PICK(dice, PAGES) : roll(dice) >> 12) >> span << span;
     }
+}
+
+void some_row(struct dice *dice, uint64_t row[4]) {
+    unsigned kind = (unsigned)below(dice, 4);
+    int last = below(dice, 4) != 0;
+    any_row(dice, kind, last, row);
 }
 
 void any_row(struct dice *dice, unsigned kind, int last, uint64_t row[4]) {
@@ -103,10 +116,14 @@ void any_command(struct dice *dice, uint8_t slot[16]) {
     put_command(slot, low | code, high);
 }
 
+static void flip_bit(struct dice *dice, uint8_t *byte) {
+    *byte ^= (uint8_t)(1u << below(dice, 8));
+}
+
 void spoilt_command(struct dice *dice, uint8_t slot[16]) {
     any_command(dice, slot);
     if (below(dice, 2)) slot[0] = (uint8_t)roll(dice);
-    else slot[below(dice, 16)] ^= (uint8_t)(1u << below(dice, 8));
+    else flip_bit(dice, slot + below(dice, 16));
 }
 
 uint64_t control_word(uint64_t rd, uint64_t wr, uint64_t flags, uint64_t log2size) {
@@ -139,7 +156,7 @@ void any_input(struct dice *dice, struct input *input, uint64_t rarity) {
     input->kept[0] = any_control(dice, log2size);
     input->words = 1 + 4 * rows;
     for (uint64_t row = 0; row < rows; row++) {
-        any_row(dice, (unsigned)below(dice, 4), below(dice, 4) != 0, input->kept + 1 + 4 * row);
+        some_row(dice, input->kept + 1 + 4 * row);
         if (below(dice, 6) == 0) input->kept[1 + 4 * row] = 0; /* an empty row keeps what once stood in its other words */
     }
     input->features = below(dice, 2) ? 15 : below(dice, 16);
@@ -151,19 +168,19 @@ void full_input(struct dice *dice, struct input *input, uint64_t rarity) {
     input->kept[0] = control_word(0x1FF, 0xFF, CMDQEN, 8); /* the index wraps after the first command */
     input->words = MOST_WORDS;
     for (uint64_t row = 0; row < MOST_ROWS; row++)
-        any_row(dice, (unsigned)below(dice, 4), below(dice, 4) != 0, input->kept + 1 + 4 * row);
+        some_row(dice, input->kept + 1 + 4 * row);
     input->features = 15;
     fill_queue(dice, input, MOST_SLOTS, rarity);
 }
 
 void damage(struct dice *dice, struct input *input) {
-    uint64_t row = below(dice, (input->words - 1) / 4), at = 1 + 4 * row;
+    uint64_t row = below(dice, (input->words - 1) / 4), at = 1 + 4 * row, word = below(dice, 4);
     switch (below(dice, 8)) {
     case 0: input->words += 1 + below(dice, 6); break;
     case 1: input->words -= 1 + below(dice, 4); break;
     case 2: case 3: input->kept[0] ^= UINT64_C(1) << below(dice, 64); break;
     case 4: input->kept[at] ^= UINT64_C(1) << below(dice, 64); break;
-    case 5: input->kept[at + below(dice, 4)] = roll(dice); break;
+    case 5: input->kept[at + word] = roll(dice); break;
     case 6: input->kept[at] = (input->kept[at] & ~UINT64_C(0x7E0)) | below(dice, 64) << 5; break;
     case 7: input->bytes += below(dice, 2) ? 16 : UINT64_C(0) - 1; break;
     }
@@ -173,15 +190,16 @@ void any_access(struct dice *dice, struct access *access) {
     access->stream = (uint32_t)PICK(dice, STREAMS);
     access->substream = (uint32_t)PICK(dice, SUBSTREAMS);
     if (below(dice, 16) == 0) access->substream = (uint32_t)roll(dice);
-    access->address = PICK(dice, PAGES) + below(dice, 0x3000);
+    access->address = PICK(dice, PAGES);
+    access->address += below(dice, 0x3000);
     if (below(dice, 16) == 0) access->address = roll(dice);
     access->how = below(dice, 8);
     access->memattr = PICK(dice, TYPES);
     access->sh = PICK(dice, SHARES);
     access->hints = hints_of(dice, access->memattr);
     switch (below(dice, 24)) { /* now and then refusal 10 */
-    case 0: access->memattr = roll(dice) >> below(dice, 64); break;
-    case 1: access->sh = roll(dice) >> below(dice, 64); break;
-    case 2: access->hints = roll(dice) >> below(dice, 64); break;
+    case 0: access->memattr = any_width(dice); break;
+    case 1: access->sh = any_width(dice); break;
+    case 2: access->hints = any_width(dice); break;
     }
 }

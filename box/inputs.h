@@ -37,9 +37,11 @@ struct access {
 
 uint64_t roll(struct dice *dice);
 uint64_t below(struct dice *dice, uint64_t limit);
+uint64_t any_width(struct dice *dice);
 
-/* The four words of a well-formed row: kind 0 to 3, last-level or not. */
+/* The four words of a well-formed row: kind 0 to 3, last-level or not; or any of these. */
 void any_row(struct dice *dice, unsigned kind, int last, uint64_t row[4]);
+void some_row(struct dice *dice, uint64_t row[4]);
 
 /* A command of 16 bytes; the second may have a wrong bit or code. */
 void any_command(struct dice *dice, uint8_t slot[16]);

@@ -11,6 +11,7 @@
 
 typedef uint64_t pair __attribute__((vector_size(16), aligned(8)));
 typedef volatile uint64_t word;
+enum { MOST_STORES = 4096 };
 
 struct due {
     size_t word;
@@ -32,14 +33,15 @@ static void in_halves(uint64_t *kept, size_t at, uint64_t value) {
     halves[1] = (uint32_t)(value >> 32);
 }
 
+/* Two words by one instruction: a vector's store, or on AArch64 also that of a pair of general registers. */
 static void both(uint64_t *kept, size_t at, uint64_t low, uint64_t high) {
+    pair value = {low, high};
 #ifdef __aarch64__
-    if (fault("fill-paired")) { /* two words by one instruction, of general registers */
-        __asm__ volatile("stp %1, %2, %0" : "=Ump"(*(pair *)(void *)&kept[at]) : "r"(low), "r"(high) : "memory");
-        return;
-    }
+    if (fault("fill-paired")) __asm__ volatile("stp %0, %1, [%2]" : : "r"(low), "r"(high), "r"(&kept[at]) : "memory");
+    else __asm__ volatile("str %q0, [%1]" : : "w"(value), "r"(&kept[at]) : "memory");
+#else
+    *(volatile pair *)(void *)&kept[at] = value;
 #endif
-    *(volatile pair *)(void *)&kept[at] = (pair){low, high};
 }
 
 static void swap(struct due *one, struct due *other) {
@@ -48,23 +50,35 @@ static void swap(struct due *one, struct due *other) {
     *other = held;
 }
 
+/* Whether this input is the one that was asked about last, so that a run at many allowances is asked about once. */
+static int asked(const uint64_t *kept, size_t words, const uint8_t *queue, size_t bytes, uint64_t features) {
+    static struct input last;
+    if (last.words == words && last.bytes == bytes && last.features == features && !memcmp(last.kept, kept, 8 * words) &&
+        !memcmp(last.queue, queue, bytes))
+        return 1;
+    last.words = words;
+    last.bytes = bytes;
+    last.features = features;
+    memcpy(last.kept, kept, 8 * words);
+    memcpy(last.queue, queue, bytes);
+    return 0;
+}
+
 /* What a run stores: the unit makes one store a call on a copy, and the copy tells which. */
 uint64_t __real_tahvenno_run(uint64_t *, size_t, const uint8_t *, size_t, uint64_t, uint64_t, uint64_t *);
-static size_t stores_of(const uint64_t *kept, size_t words, const uint8_t *queue, size_t bytes, uint64_t features, uint64_t most,
+static void stores_of(const uint64_t *kept, size_t words, const uint8_t *queue, size_t bytes, uint64_t features,
                         struct due *due) {
     static uint64_t copy[ROOM], before[ROOM];
     uint64_t answer[8];
     size_t count = 0;
     memcpy(copy, kept, 8 * words);
-    while (count < most) {
+    do {
         memcpy(before, copy, 8 * words);
         __real_tahvenno_run(copy, words, queue, bytes, features, 1, answer);
-        if (answer[2] == 0) break;
         for (size_t i = 0; i < words; i++)
             if (before[i] != copy[i]) due[count] = (struct due){i, copy[i]};
-        count++;
-    }
-    return count;
+        count += answer[2];
+    } while (answer[2] && count < MOST_STORES);
 }
 
 /* Puts a wrong order on what a run stores. */
@@ -104,7 +118,7 @@ static void write_back(uint64_t *kept, size_t words, const struct due *due, size
 
 uint64_t __wrap_tahvenno_run(uint64_t *kept, size_t words, const uint8_t *queue, size_t bytes, uint64_t features,
                              uint64_t allowance, uint64_t answer[8]) {
-    static struct due due[4096];
+    static struct due all[MOST_STORES + 1], due[MOST_STORES];
     static uint64_t copy[ROOM];
     memcpy(copy, kept, 8 * words);
     uint64_t returned = __real_tahvenno_run(copy, words, queue, bytes, features, allowance, answer);
@@ -112,7 +126,9 @@ uint64_t __wrap_tahvenno_run(uint64_t *kept, size_t words, const uint8_t *queue,
         if (fault("refusal-stores")) store(kept, 0, kept[0]);
         return returned;
     }
-    size_t count = stores_of(kept, words, queue, bytes, features, answer[2], due);
+    if (!asked(kept, words, queue, bytes, features)) stores_of(kept, words, queue, bytes, features, all);
+    size_t count = answer[2];
+    memcpy(due, all, count * sizeof due[0]);
     reorder(due, count);
     if (fault("run-queue")) *(volatile uint8_t *)(uintptr_t)queue = *queue;
     if (fault("run-beyond")) store(kept, words, 0);
@@ -163,7 +179,7 @@ static void store_control(uint64_t *kept, uint64_t value) {
         store(kept, 0, 0);
 #endif
     }
-    if (fault("control-twice")) store(kept, 0, value & ~CMDQEN);
+    if (fault("control-twice")) store(kept, 0, value ^ CMDQEN);
     store(kept, 0, value);
 }
 

@@ -1,0 +1,94 @@
+/* calls [SEED [COUNT]]: pseudo-random calls of the unit, and what comes of them as numbers that can be compared between machines.
+ *
+ * Accepted images, several calls in a row on each, and damaged ones; all seven calls. Prints a hash over every number returned, every
+ * answer and every word of kept memory, now and then while it goes on, and how often each call gave each number and each end. Ends
+ * with 1 where a refusal or an end never came up, or a call wrote beside its memory. */
+#include <inttypes.h>
+#include <stdio.h>
+#include <stdlib.h>
+#include <string.h>
+
+#include "call.h"
+
+enum { REFUSALS = 11, ENDS = 6, MARK_EVERY = 10000 };
+
+/* What each call can return, a bit for each number, and how many ends its answer has. */
+static const unsigned RETURNS[CALLS] = {0x1F, 0x38F, 0x2F, 0x4F, 0xF, 0x40F, 0xF};
+static const unsigned ENDS_OF[CALLS] = {5, 2, 0, 0, 0, 6, 0};
+
+static uint64_t hash = UINT64_C(0xCBF29CE484222325), returned[CALLS][REFUSALS], ended[CALLS][ENDS];
+
+/* A multiplication that spreads a word's bits, so that order and place count. */
+static void take(uint64_t word) {
+    hash = (hash ^ word) * UINT64_C(0x9E3779B97F4A7C15);
+    hash ^= hash >> 29;
+}
+
+static void stop(const char *why, enum which which) {
+    printf("calls: %s: %s\n", CALL_NAMES[which], why);
+    exit(1);
+}
+
+/* Makes one call on memory with marked words on both sides, and takes everything that it left. */
+static void one(const struct call *call, struct input *input) {
+    static const uint64_t mark = UINT64_C(0x5AFE5AFE5AFE5AFE);
+    uint64_t memory[ROOM + 2], *kept = memory + 1;
+    struct {
+        uint64_t before;
+        struct outcome outcome;
+        uint64_t after;
+    } told = {mark, {0, {mark, mark, mark, mark, mark, mark, mark, mark}}, mark};
+    memory[0] = mark;
+    memcpy(kept, input->kept, 8 * input->words);
+    kept[input->words] = mark;
+    make_call(call, input, kept, input->queue, &told.outcome);
+    if (memory[0] != mark || kept[input->words] != mark) stop("wrote beside kept memory", call->which);
+    if (told.before != mark || told.after != mark) stop("wrote beside its answer", call->which);
+    if (told.outcome.returned >= REFUSALS || told.outcome.answer[0] == mark) stop("no such number", call->which);
+    take(told.outcome.returned);
+    for (int i = 0; i < 8; i++) take(told.outcome.answer[i]);
+    for (size_t i = 0; i < input->words; i++) take(kept[i]);
+    memcpy(input->kept, kept, 8 * input->words);
+    returned[call->which][told.outcome.returned]++;
+    if (ENDS_OF[call->which] && !told.outcome.returned) ended[call->which][told.outcome.answer[0] % ENDS]++;
+}
+
+/* Prints the counts, and says whether one that should be there is 0, or one that cannot be is not. */
+static int report(void) {
+    int wrong = 0;
+    for (enum which which = RUN; which < CALLS; which++) {
+        printf("calls: %-11s returned", CALL_NAMES[which]);
+        for (unsigned i = 0; i < REFUSALS; i++) {
+            if (returned[which][i]) printf(" %u: %" PRIu64, i, returned[which][i]);
+            wrong |= (returned[which][i] != 0) != (RETURNS[which] >> i & 1);
+        }
+        for (unsigned i = 0; i < ENDS; i++) {
+            if (ENDS_OF[which]) printf("%s%" PRIu64, i ? ", " : "; ended ", ended[which][i]);
+            wrong |= (ended[which][i] != 0) != (i < ENDS_OF[which]);
+        }
+        printf("\n");
+    }
+    return wrong;
+}
+
+int main(int argc, char **argv) {
+    static struct input input;
+    struct dice dice = {argc > 1 ? strtoull(argv[1], NULL, 0) : 1};
+    uint64_t count = argc > 2 ? strtoull(argv[2], NULL, 0) : 200000, left = 0;
+    struct call call;
+    for (uint64_t i = 1; i <= count; i++) {
+        if (left == 0) {
+            any_input(&dice, &input, 8);
+            left = 1 + below(&dice, 8);
+            if (below(&dice, 3) == 0) damage(&dice, &input), left = 1;
+        }
+        left--;
+        enum which which = (enum which)below(&dice, CALLS);
+        any_call(&dice, &input, which, &call);
+        one(&call, &input);
+        if (i % MARK_EVERY == 0) printf("calls: %" PRIu64 " made, hash %016" PRIx64 "\n", i, hash);
+    }
+    int wrong = report();
+    printf("calls: %" PRIu64 " calls, hash %016" PRIx64 "%s\n", count, hash, wrong ? "; a number or an end is missing, or impossible" : "");
+    return wrong;
+}
