@@ -1,3 +1,4 @@
+/* The calls, and random arguments for them; as in inputs.c, the order of the rolls is fixed. */
 #include "call.h"
 
 #include <string.h>

@@ -1,8 +1,8 @@
 /* calls [SEED [COUNT]]: pseudo-random calls of the unit, and what comes of them as numbers that can be compared between machines.
  *
- * Accepted images, several calls in a row on each, and damaged ones; all seven calls. Prints a hash over every number returned, every
- * answer and every word of kept memory, now and then while it goes on, and how often each call gave each number and each end. Ends
- * with 1 where a refusal or an end never came up, or a call wrote beside its memory. */
+ * Accepted images, several calls in a row on each, and damaged ones; all seven calls. Prints a hash over every number returned,
+ * every answer and every word of kept memory, now and then while it goes on, and how often each call gave each number and each
+ * end. Ends with 1 where a refusal or an end never came up, or a call wrote beside its memory. */
 #include <inttypes.h>
 #include <stdio.h>
 #include <stdlib.h>
@@ -89,6 +89,7 @@ int main(int argc, char **argv) {
         if (i % MARK_EVERY == 0) printf("calls: %" PRIu64 " made, hash %016" PRIx64 "\n", i, hash);
     }
     int wrong = report();
-    printf("calls: %" PRIu64 " calls, hash %016" PRIx64 "%s\n", count, hash, wrong ? "; a number or an end is missing, or impossible" : "");
+    printf("calls: %" PRIu64 " calls, hash %016" PRIx64 "\n", count, hash);
+    if (wrong) printf("calls: a number or an end never came up, or cannot be\n");
     return wrong;
 }

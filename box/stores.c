@@ -1,10 +1,10 @@
 /* stores [SEED [ROUNDS]]: the stores of the compiled unit, one by one, against the order that document 01 gives.
  *
- * What a run has to store is read from what it leaves at allowance 0, 1, 2 and so on: one word differs each time, since clearing a
- * used row, moving RD and flipping GERROR all change the word. What a fill and a control call have to store is in their words. Every
- * call is then made on watched memory, and word, value, order and number of the stores that are seen have to be those; a call that
- * is refused, a transaction and the state have to store nothing. Ends with 1 at the first difference, and where a kind of store
- * never came up. */
+ * What a run has to store is read from what it leaves at allowance 0, 1, 2 and so on: one word differs each time, since clearing
+ * a used row, moving RD and flipping GERROR all change the word. What a fill and a control call have to store is in their words.
+ * Every call is then made on watched memory, and word, value, order and number of the stores that are seen have to be those; a
+ * call that is refused, a transaction and the state have to store nothing. Ends with 1 at the first difference, and where a kind
+ * of store never came up. */
 #include <inttypes.h>
 #include <stdarg.h>
 #include <stdio.h>
@@ -47,8 +47,8 @@ static void compare_stores(const char *name, const struct trace *trace, const st
     for (size_t i = 0; i < trace->count && i < count; i++) {
         const struct store *is = &trace->stores[i];
         if (is->word != expected[i].word || is->value != expected[i].value)
-            fail("%s: store %zu puts %" PRIx64 " in word %zu, and should put %" PRIx64 " in word %zu", name, i + 1, is->value, is->word,
-                 expected[i].value, expected[i].word);
+            fail("%s: store %zu puts %" PRIx64 " in word %zu, and should put %" PRIx64 " in word %zu", name, i + 1, is->value,
+                 is->word, expected[i].value, expected[i].word);
     }
     if (trace->complaint[0]) fail("%s: after %zu stores: %s", name, trace->count, trace->complaint);
     if (trace->count != count) fail("%s: %zu stores, and should be %zu", name, trace->count, count);
@@ -87,7 +87,8 @@ static size_t run_stores(const struct input *input, struct store *expected, stru
         if (last->returned) fail("run: refusal %" PRIu64 " of an image that is well formed", last->returned);
         for (size_t i = 0; i < input->words; i++)
             if (before[i] != after[i]) differ++, word = i;
-        if (differ != (call.allowance != 0 && count < last->answer[2])) fail("run: %zu words differ at allowance %" PRIu64, differ, call.allowance);
+        if (differ != (call.allowance != 0 && count < last->answer[2]))
+            fail("run: %zu words differ at allowance %" PRIu64, differ, call.allowance);
         if (differ) expected[count++] = (struct store){word, after[word]};
         if (count != last->answer[2]) fail("run: %zu stores, reported %" PRIu64, count, last->answer[2]);
         if (last->answer[0] != TAHVENNO_CUT) return count;

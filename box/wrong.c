@@ -1,8 +1,8 @@
 /* Units whose stores are wrong, to show that box/stores refuses them. No part of the unit.
  *
- * The linker puts these functions before the unit's (--wrap), and TAHVENNO_WRONG names the fault. Each asks the unit on a copy what
- * is to be stored, and then makes the stores its own way: so answers are right, mostly memory too, and only the stores tell. Without
- * a fault they are right as well, and box/stores has to accept them. */
+ * The linker puts these functions before the unit's (--wrap), and TAHVENNO_WRONG names the fault. Each asks the unit on a copy
+ * what is to be stored, and then makes the stores its own way: so answers are right, mostly memory too, and only the stores tell.
+ * Without a fault they are right as well, and box/stores has to accept them. */
 #include <stdlib.h>
 #include <string.h>
 
