@@ -31,9 +31,13 @@ compile_for() { # machine, arguments of the compiler
     local machine=$1 compiler
     local -a how=(-std=gnu11 -Wall -Wextra -Werror -O2 -Iinclude -Ibox)
     shift
-    compiler=$(tool_for "$machine" gcc)
+    if [ "$machine" = "$(uname -m)" ]; then
+        compiler=cc
+    else
+        compiler=$machine-linux-gnu-gcc
+        how+=(-static)
+    fi
     need "$compiler"
-    [ "$machine" = "$(uname -m)" ] || how+=(-static)
     "$compiler" "${how[@]}" "$@"
 }
 
