@@ -35,7 +35,8 @@
  *   fill  call it again with the same words and an allowance of 4 or more: it starts from its first store every time, and
  *         until its last store the row is an empty one.
  *
- * The other calls store one word or none.
+ * The other calls store one word or none. The stores are plain ones with no barrier between them: docs/BOX.md says what the
+ * memory, or the caller, has to do so that they arrive in this order.
  */
 #ifndef TAHVENNO_H
 #define TAHVENNO_H
