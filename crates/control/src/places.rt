@@ -1,4 +1,4 @@
-// Where the parts of the control word stand that a store changes: their highest and lowest bits.
+// Where the parts of the control word stand: their highest and lowest bits.
 pub const RD_HIGH: u64 = 19;
 
 pub const RD_LOW: u64 = 0;
@@ -22,3 +22,7 @@ pub const GERRORN_LOW: u64 = 48;
 pub const CMDQEN_HIGH: u64 = 49;
 
 pub const CMDQEN_LOW: u64 = 49;
+
+pub const LOG2SIZE_HIGH: u64 = 54;
+
+pub const LOG2SIZE_LOW: u64 = 50;

@@ -50,7 +50,7 @@ fn cmdqen_of(w: u64) -> u64
 pub fn log2size_of(w: u64) -> u64
     ensures { λ r. ⌜ (r ≡ log2size w) × (r < 32) ⌝ }
 {
-    words::part(w, 54, 50)
+    words::part(w, places::LOG2SIZE_HIGH, places::LOG2SIZE_LOW)
 }
 
 pub fn fields_of(w: u64) -> Fields

@@ -1,5 +1,6 @@
 // The control fields unpacked, lent by reference: acknowledging changes them in place.
 use control::Fields;
+use control::places;
 ghost use mathlib.Core.Path.{_≡_};
 ghost use Rattle.registers.specs.Registers.{packed, fits, decided, Acknowledges};
 
@@ -24,14 +25,18 @@ pub struct Decision {
 pub fn pack(f: Fields) -> u64
     ensures { λ r. ⌜ r ≡ packed f ⌝ }
 {
-    let indexed = words::put(words::put(0, 19, 0, f.rd), 39, 20, f.wr);
-    let errors = words::put(
-        words::put(words::put(indexed, 46, 40, f.err), 47, 47, f.gerror),
-        48,
-        48,
-        f.gerrorn,
-    );
-    words::put(words::put(errors, 49, 49, f.cmdqen), 54, 50, f.log2size)
+    let rd = words::put(0, places::RD_HIGH, places::RD_LOW, f.rd);
+    let wr = words::put(rd, places::WR_HIGH, places::WR_LOW, f.wr);
+    let err = words::put(wr, places::ERR_HIGH, places::ERR_LOW, f.err);
+    let gerror = words::put(err, places::GERROR_HIGH, places::GERROR_LOW, f.gerror);
+    let gerrorn = words::put(gerror, places::GERRORN_HIGH, places::GERRORN_LOW, f.gerrorn);
+    let cmdqen = words::put(gerrorn, places::CMDQEN_HIGH, places::CMDQEN_LOW, f.cmdqen);
+    words::put(
+        cmdqen,
+        places::LOG2SIZE_HIGH,
+        places::LOG2SIZE_LOW,
+        f.log2size,
+    )
 }
 
 // Each field within its part's width.
