@@ -9,6 +9,7 @@ use Rattle.words.specs.declared.Found.{Found}
 use Rattle.words.specs.declared.Found.the-variants.{At, Nothing}
 use Rattle.words.proofs.Search.{Lowest}
 use Rattle.control.specs.Control as control
+use Rattle.control.specs.declared.Rest.{Rest}
 use Rattle.control.specs.declared.Standing.{Standing}
 use Rattle.control.specs.declared.Standing.the-variants.{Resting, Open}
 use Rattle.control_stores.specs.Stores as control-stores
@@ -19,14 +20,14 @@ use Rattle.commands.specs.declared.Decoded.the-variants.{Legal, Illegal}
 use Rattle.commands.specs.Decoding.{syncsOf}
 use Rattle.image.specs.Image.{rowsIn, controlOf}
 use Rattle.image.proofs.AfterStores.{cleared}
-use Rattle.steps.specs.Due.{What, Remove, Consume, Raise, Due, Rests, Stores, scopedAt, scan, byScan, dueFor, atRd, gate, due}
+use Rattle.steps.specs.Due.{What, Remove, Consume, Raise, Due, Rests, Stores, scopedAt, scan, byScan, afterCommand, dueFor, atRd, gate, due}
 use Rattle.steps.proofs.Scans.{lowest-scoped}
 use Rattle.runs.specs.Running.{Next, rests, stores, nextOf, dueIn}
 
 -- the store is one of three: the lowest row in scope of a legal command, the command itself once there is none, or the error
 pub data Case (f : Features) (queue m : List ℕ) (w : What) (m′ : List ℕ) : Type 0 where
   removes : (c : Command) (i : ℕ) → atRd f queue m ≡ Legal c → Lowest (scopedAt f c m) (rowsIn m) 0 i → w ≡ Remove → m′ ≡ cleared m i → Case f queue m w m′
-  consumes : (c : Command) → atRd f queue m ≡ Legal c → scan f c m (rowsIn m) 0 ≡ Nothing → w ≡ Consume (syncsOf (Legal c)) → m′ ≡ set m 0 (control-stores.consumed (controlOf m)) → Case f queue m w m′
+  consumes : (c : Command) → atRd f queue m ≡ Legal c → scan f c m (rowsIn m) 0 ≡ Nothing → w ≡ Consume (syncsOf (Legal c)) → m′ ≡ set m 0 (afterCommand (Legal c) (controlOf m)) → Case f queue m w m′
   raises : atRd f queue m ≡ Illegal → w ≡ Raise → m′ ≡ set m 0 (control-stores.raised (controlOf m)) → Case f queue m w m′
 
 pub record IsDue (f : Features) (queue m : List ℕ) (w : What) (m′ : List ℕ) : Type 0 where
@@ -50,3 +51,26 @@ module _ (f : Features) (queue m : List ℕ) (w : What) (m′ : List ℕ) where
   pub is-due : dueIn f queue m ≡ stores w m′ → IsDue f queue m w m′
   unfolding due
   is-due s = by-standing (control.standing (controlOf m)) refl s
+
+-- where the control word is open, a store is due
+module _ (f : Features) (queue m : List ℕ) (r : Rest) where
+  never-rests : (d : Decoded) → nextOf (dueFor f d m) m ≡ rests r → ⊥
+  unfolding dueFor
+  never-rests (Legal c) e = by-found (scan f c m (rowsIn m) 0) e
+    where
+      by-found : (x : Found) → nextOf (byScan c (controlOf m) x) m ≡ rests r → ⊥
+      by-found (At i) e = let z : _≡_ {A = ℕ} 0 1 = cc in omega arith
+      by-found Nothing e = let z : _≡_ {A = ℕ} 0 1 = cc in omega arith
+  never-rests Illegal e = let z : _≡_ {A = ℕ} 0 1 = cc in omega arith
+
+  -- so at rest means that the control word is
+  pub rests-at : dueIn f queue m ≡ rests r → control.standing (controlOf m) ≡ Resting r
+  unfolding due
+  rests-at e = by-standing′ (control.standing (controlOf m)) refl e
+    where
+      by-standing′ : (st : Standing) → control.standing (controlOf m) ≡ st → nextOf (gate st (dueFor f (atRd f queue m) m)) m ≡ rests r → control.standing (controlOf m) ≡ Resting r
+      by-standing′ (Resting r′) same s = same ∙ (cc)
+      by-standing′ Open same s = absurd (never-rests (atRd f queue m) s)
+
+  pub open-stores : control.standing (controlOf m) ≡ Open → dueIn f queue m ≡ rests r → ⊥
+  open-stores on e = let z : _≡_ {A = ℕ} 0 1 = cc (rests-at e) in omega arith

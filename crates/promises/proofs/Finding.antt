@@ -10,18 +10,21 @@ use native.Mathlib.Nat.{zero-add}
 use native.Mathlib.Numerals.{one-add}
 use native.Mathlib.Omega.{arith}
 use lib.ListN.{length, getD, set, length-set}
+use borrow.Author.Tests.{eqb-true}
 use lib.Seq.{getD-set-same, getD-set-other}
 use Rattle.words.specs.declared.Found.the-variants.{Nothing}
 use Rattle.words.proofs.Search.{Lowest, from-zero, none}
 use Rattle.words.proofs.Truth.{clash, decided}
 use Rattle.control.specs.Control as control
 use Rattle.control.specs.declared.Rest.{Rest}
+use Rattle.control.specs.declared.Standing.the-variants.{Open}
 use Rattle.control.specs.declared.Rest.the-variants.{Off as Rest·Off, Held as Rest·Held, Empty as Rest·Empty}
 use Rattle.control_stores.specs.Stores as control-stores
 use Rattle.commands.specs.declared.Features.{Features}
 use Rattle.commands.specs.declared.Command.{Command}
 use Rattle.commands.specs.declared.Decoded.{Decoded}
 use Rattle.commands.specs.declared.Decoded.the-variants.{Legal, Illegal}
+use Rattle.commands.specs.Decoding.{decodeAt}
 use Rattle.scopes.specs.Scopes.{inScope}
 use Rattle.scopes.proofs.Laws.{empty-spared}
 use Rattle.rows.specs.declared.Row.{Row}
@@ -29,71 +32,109 @@ use Rattle.rows.specs.Rows.{isEmpty}
 use Rattle.image.specs.Image.{rowsIn, controlOf, rowAt}
 use Rattle.image.proofs.Checks.{Accepts, rows-are}
 use Rattle.image.proofs.AfterStores.{cleared, cleared-control, cleared-other, row-kept, InRow}
-use Rattle.steps.specs.Due.{What, Remove, Consume, Raise, scopedAt, scan, atRd}
+use Rattle.steps.specs.Due.{What, Remove, Consume, Raise, scopedAt, scan, afterCommand, atRd}
 use Rattle.steps.proofs.Scans.{gone as gone-now, others as others-scoped}
 use Rattle.runs.specs.declared.End.{End}
 use Rattle.runs.specs.declared.End.the-variants.{Off, Held, Empty, Raised, Cut}
 use Rattle.runs.specs.Running.{Out, Next, rests, stores, rested, plus, last, next, runBy, dueIn, run, endOf}
-use Rattle.promises.specs.Found.{advanced, commandAt, closing, WasInScope, Found}
-use Rattle.promises.proofs.Cases.{Case, removes, consumes, raises, IsDue, is-due}
+use Rattle.promises.specs.Places.{word0}
+use Rattle.promises.specs.Found.{advanced, commandAt, closing, Consumed, WasInScope, Found}
+use Rattle.promises.proofs.Cases.{Case, removes, consumes, raises, IsDue, is-due, open-stores}
+use Rattle.promises.proofs.Resume.{rest-unraised}
 use Rattle.promises.proofs.Accepted.{store-accepted}
+
+-- a legal command at RD: a run that does not consume it is cut
+module _ (f : Features) (queue : List ℕ) where
+  abbrev Reaches : Out (List ℕ) → Type 0
+  Reaches o = (0 < o .ran .consumed) ⊎ ((0 ≡ o .ran .consumed) × (o .ran .end ≡ Cut))
+
+  reaches-by : (k : ℕ) (m m′ : List ℕ) (w : What) (c : Command) → atRd f queue m ≡ Legal c
+      → ((m″ : List ℕ) → control.standing (controlOf m″) ≡ Open → atRd f queue m″ ≡ Legal c → Reaches (run f queue k m″))
+      → IsDue f queue m w m′ → Case f queue m w m′ → Reaches (next (run f queue k) (stores w m′) m)
+  reaches-by k m m′ w c legal ih d (removes c′ i legal′ low what stored) =
+      let word = cleared-control m i in
+      rw (what, stored, zero-add) (ih (cleared m i) (ap control.standing word ∙ d .open-for-it) (ap (λ (x : ℕ). decodeAt f queue (control.slot x)) word ∙ legal))
+  reaches-by k m m′ w c legal ih d (consumes c′ legal′ nothing what stored) = rw what (inl (omega arith))
+  reaches-by k m m′ w c legal ih d (raises illegal what stored) = let z : _≡_ {A = ℕ} 0 1 = cc in absurd (omega arith)
+
+  reaches-next : (k : ℕ) (m : List ℕ) (c : Command) (d : Next (List ℕ)) → dueIn f queue m ≡ d → control.standing (controlOf m) ≡ Open → atRd f queue m ≡ Legal c
+      → ((m″ : List ℕ) → control.standing (controlOf m″) ≡ Open → atRd f queue m″ ≡ Legal c → Reaches (run f queue k m″))
+      → Reaches (next (run f queue k) d m)
+  reaches-next k m c (rests r) e on legal ih = absurd (open-stores f queue m r on e)
+  reaches-next k m c (stores w m′) e on legal ih = let d = is-due f queue m w m′ e in reaches-by k m m′ w c legal ih d (d .kind)
+
+  reaches-last : (m : List ℕ) (d : Next (List ℕ)) → dueIn f queue m ≡ d → control.standing (controlOf m) ≡ Open → Reaches (last d m)
+  reaches-last m (rests r) e on = absurd (open-stores f queue m r on e)
+  reaches-last m (stores w m′) e on = inr (refl, refl)
+
+  reaches : (k : ℕ) (m : List ℕ) (c : Command) → control.standing (controlOf m) ≡ Open → atRd f queue m ≡ Legal c → Reaches (run f queue k m)
+  unfolding runBy
+  reaches zero m c on legal = reaches-last m (dueIn f queue m) refl on
+  reaches (suc k) m c on legal = reaches-next k m c (dueIn f queue m) refl on legal (λ m″ o l. reaches k m″ c o l)
 
 module _ (f : Features) (queue : List ℕ) (n : ℕ) where
   -- nothing happened
-  still : (e : End) (m : List ℕ) → closing e (controlOf m) ≡ controlOf m → Found f queue n 0 e m m
+  still : (e : End) (m : List ℕ) → closing e (controlOf m) ≡ controlOf m → (e ≡ Raised → ⊥) → Found f queue n 0 e m m
   unfolding advanced
-  still e m same =
+  still e m same quiet =
       record {
         control-word = sym same;
-        gone = λ t i c h. absurd (omega arith);
+        gone = λ t h. absurd (omega arith);
+        illegal = λ r. absurd (quiet r);
         early = λ i h. inl refl;
         others = λ p a b. refl;
         long = refl;
       }
 
   rest-still : (r : Rest) (m : List ℕ) → Found f queue n 0 (endOf r) m m
-  rest-still Rest·Off m = still Off m refl
-  rest-still Rest·Held m = still Held m refl
-  rest-still Rest·Empty m = still Empty m refl
+  rest-still Rest·Off m = still Off m refl (rest-unraised Rest·Off)
+  rest-still Rest·Held m = still Held m refl (rest-unraised Rest·Held)
+  rest-still Rest·Empty m = still Empty m refl (rest-unraised Rest·Empty)
 
   -- the error was raised
-  raised-found : (m : List ℕ) → 0 < length m → Found f queue n 0 Raised m (set m 0 (control-stores.raised (controlOf m)))
+  raised-found : (m : List ℕ) → 0 < length m → atRd f queue m ≡ Illegal → Found f queue n 0 Raised m (set m 0 (control-stores.raised (controlOf m)))
   unfolding advanced
-  raised-found m room =
+  raised-found m room illegal =
       let v = control-stores.raised (controlOf m) in
       record {
         control-word = getD-set-same m 0 v 0 room;
-        gone = λ t i c h. absurd (omega arith);
-        early = λ i h. inl (getD-set-other m 0 (4 * i + 1) v 0 (omega arith));
+        gone = λ t h. absurd (omega arith);
+        illegal = λ r. illegal;
+        early = λ i h. inl (getD-set-other m 0 (word0 i) v 0 (omega arith));
         others = λ p a b. getD-set-other m 0 p v 0 a;
         long = length-set m 0 v;
       }
 
   -- a row went, and the run went on
   after-remove : (m m₂ : List ℕ) (k : ℕ) (e : End) (c : Command) (i : ℕ) → Accepts m n → atRd f queue m ≡ Legal c → Lowest (scopedAt f c m) (rowsIn m) 0 i
-      → Found f queue n k e (cleared m i) m₂ → Found f queue n k e m m₂
+      → (0 < k) ⊎ ((0 ≡ k) × (e ≡ Cut)) → Found f queue n k e (cleared m i) m₂ → Found f queue n k e m m₂
   unfolding advanced
-  after-remove m m₂ k e c i a legal low later =
+  after-remove m m₂ k e c i a legal low reached later =
       let word = cleared-control m i in
       let below : i < n = rw (rows-are m n (a .size)) at (low .below) in
-      let room : 4 * i + 1 < length m = omega (arith, a .size .words) in
-      let here : WasInScope f queue m k i = record { which = 0; command = c; reached = omega arith; is-command = legal; in-scope = low .passes } in
+      let room : word0 i < length m = omega (arith, a .size .words) in
+      let here : WasInScope f queue m k e i = record { which = 0; command = c; reached = reached; is-command = legal; in-scope = low .passes } in
       record {
-        control-word = later .control-word ∙ ap (λ (w : ℕ). closing e (advanced k w)) word;
-        gone = λ t j d h l is. later .gone t j d h l (ap (λ (w : ℕ). commandAt f queue w t) word ∙ is);
+        control-word = later .control-word ∙ ap (λ (w : ℕ). closing e (advanced f queue k w)) word;
+        gone = λ t h. from-cleared word t (later .gone t h);
+        illegal = λ r. ap (λ (w : ℕ). commandAt f queue w k) (sym word) ∙ later .illegal r;
         early = λ j h. each here word room j h (ℕ-discrete j i) (later .early j h);
-        others = λ p x y. later .others p x y ∙ getD-set-other m (4 * i + 1) p 0 0 (λ q. y i below q);
-        long = later .long ∙ length-set m (4 * i + 1) 0;
+        others = λ p x y. later .others p x y ∙ getD-set-other m (word0 i) p 0 0 (λ q. y i below q);
+        long = later .long ∙ length-set m (word0 i) 0;
       }
     where
-      each : WasInScope f queue m k i → controlOf (cleared m i) ≡ controlOf m → 4 * i + 1 < length m → (j : ℕ) → j < n → Dec (j ≡ i)
-          → (getD m₂ (4 * j + 1) 0 ≡ getD (cleared m i) (4 * j + 1) 0) ⊎ ((getD m₂ (4 * j + 1) 0 ≡ 0) × WasInScope f queue (cleared m i) k j)
-          → (getD m₂ (4 * j + 1) 0 ≡ getD m (4 * j + 1) 0) ⊎ ((getD m₂ (4 * j + 1) 0 ≡ 0) × WasInScope f queue m k j)
+      from-cleared : controlOf (cleared m i) ≡ controlOf m → (t : ℕ) → Consumed f queue n (cleared m i) m₂ t → Consumed f queue n m m₂ t
+      from-cleared word t z =
+          record { command = z .command; is-command = ap (λ (w : ℕ). commandAt f queue w t) (sym word) ∙ z .is-command; gone = z .gone }
+
+      each : WasInScope f queue m k e i → controlOf (cleared m i) ≡ controlOf m → word0 i < length m → (j : ℕ) → j < n → Dec (j ≡ i)
+          → (getD m₂ (word0 j) 0 ≡ getD (cleared m i) (word0 j) 0) ⊎ ((getD m₂ (word0 j) 0 ≡ 0) × WasInScope f queue (cleared m i) k e j)
+          → (getD m₂ (word0 j) 0 ≡ getD m (word0 j) 0) ⊎ ((getD m₂ (word0 j) 0 ≡ 0) × WasInScope f queue m k e j)
       each here word room j h (yes s) was =
-          inr (⊎-elim (λ q. q ∙ rw s (getD-set-same m (4 * i + 1) 0 0 room)) (λ z. z .0) was, rw s here)
+          inr (⊎-elim (λ q. q ∙ rw s (getD-set-same m (word0 i) 0 0 room)) (λ z. z .0) was, rw s here)
       each here word room j h (no d) was =
           ⊎-elim
-          (λ q. inl (q ∙ getD-set-other m (4 * i + 1) (4 * j + 1) 0 0 (λ p. d (omega arith))))
+          (λ q. inl (q ∙ getD-set-other m (word0 i) (word0 j) 0 0 (λ p. d (omega arith))))
           (λ z. inr (
             z .0,
             record {
@@ -130,36 +171,43 @@ module _ (f : Features) (queue : List ℕ) (n : ℕ) where
 
   -- a command was consumed, and the run went on
   after-consume : (m m₂ : List ℕ) (k : ℕ) (e : End) (c : Command) → Accepts m n → atRd f queue m ≡ Legal c → scan f c m (rowsIn m) 0 ≡ Nothing
-      → Found f queue n k e (set m 0 (control-stores.consumed (controlOf m))) m₂ → Found f queue n (suc k) e m m₂
+      → Found f queue n k e (set m 0 (afterCommand (Legal c) (controlOf m))) m₂ → Found f queue n (suc k) e m m₂
   unfolding advanced
   after-consume m m₂ k e c a legal nothing later =
       record {
-        control-word = later .control-word ∙ ap (λ (w : ℕ). closing e (advanced k w)) word;
+        control-word = later .control-word ∙ ap (λ (w : ℕ). closing e (advanced f queue k w)) word;
         gone = went;
-        early = λ i h. ⊎-elim (λ q. inl (q ∙ getD-set-other m 0 (4 * i + 1) v 0 (omega arith))) (λ z. inr (z .0, onward i (z .1))) (later .early i h);
+        illegal = λ r. ap (λ (w : ℕ). commandAt f queue w k) (sym word) ∙ later .illegal r;
+        early = λ i h. ⊎-elim (λ q. inl (q ∙ getD-set-other m 0 (word0 i) v 0 (omega arith))) (λ z. inr (z .0, onward i (z .1))) (later .early i h);
         others = λ p x y. later .others p x y ∙ getD-set-other m 0 p v 0 x;
         long = later .long ∙ length-set m 0 v;
       }
     where
       v : ℕ
-      v = control-stores.consumed (controlOf m)
+      v = afterCommand (Legal c) (controlOf m)
 
-      word : controlOf (set m 0 v) ≡ v
-      word = getD-set-same m 0 v 0 (omega (arith, a .size .words))
+      -- the control word that the memory goes on with
+      word : controlOf (set m 0 v) ≡ afterCommand (atRd f queue m) (controlOf m)
+      word = getD-set-same m 0 v 0 (omega (arith, a .size .words)) ∙ ap (λ (d : Decoded). afterCommand d (controlOf m)) (sym legal)
 
-      went : (t i : ℕ) (d : Command) → t < suc k → i < n → commandAt f queue (controlOf m) t ≡ Legal d → scopedAt f d m₂ i ≡ false
-      went zero i d h l is =
-          let same : d ≡ c = cc in
-          never-again (set m 0 v) m₂ k e later d i l
-          (same-row m v d i ∙ rw same (none (scopedAt f c m) (rowsIn m) 0 (omega arith) (sym (from-zero (scopedAt f c m) (rowsIn m)) ∙ nothing) i (omega arith) (rw (rows-are m n (a .size)) l)))
-      went (suc t) i d h l is = later .gone t i d (omega arith) l (ap (λ (w : ℕ). commandAt f queue w t) word ∙ is)
+      went : (t : ℕ) → t < suc k → Consumed f queue n m m₂ t
+      went zero h =
+          record {
+            command = c;
+            is-command = legal;
+            gone = λ i l. never-again (set m 0 v) m₂ k e later c i l
+                (same-row m v c i ∙ none (scopedAt f c m) (rowsIn m) 0 (omega arith) (sym (from-zero (scopedAt f c m) (rowsIn m)) ∙ nothing) i (omega arith) (rw (rows-are m n (a .size)) l));
+          }
+      went (suc t) h =
+          let z = later .gone t (omega arith) in
+          record { command = z .command; is-command = ap (λ (w : ℕ). commandAt f queue w t) (sym word) ∙ z .is-command; gone = z .gone }
 
-      onward : (i : ℕ) → WasInScope f queue (set m 0 v) k i → WasInScope f queue m (suc k) i
+      onward : (i : ℕ) → WasInScope f queue (set m 0 v) k e i → WasInScope f queue m (suc k) e i
       onward i z =
           record {
             which = suc (z .which);
             command = z .command;
-            reached = omega (arith, z .reached);
+            reached = ⊎-elim (λ h. inl (omega arith)) (λ h. inr (ap suc (h .0), h .1)) (z .reached);
             is-command = ap (λ (w : ℕ). commandAt f queue w (z .which)) (sym word) ∙ z .is-command;
             in-scope = sym (same-row m v (z .command) i) ∙ z .in-scope;
           }
@@ -168,25 +216,41 @@ module _ (f : Features) (queue : List ℕ) (n : ℕ) where
   After m o = Found f queue n (o .ran .consumed) (o .ran .end) m (o .memory)
 
   by-case : (k : ℕ) (m m′ : List ℕ) (w : What) → Accepts m n → dueIn f queue m ≡ stores w m′ → ((m″ : List ℕ) → Accepts m″ n → After m″ (run f queue k m″))
-      → Case f queue m w m′ → After m (next (run f queue k) (stores w m′) m)
-  by-case k m m′ w a e ih (removes c i legal low what stored) =
+      → IsDue f queue m w m′ → Case f queue m w m′ → After m (next (run f queue k) (stores w m′) m)
+  by-case k m m′ w a e ih d (removes c i legal low what stored) =
       let accepted : Accepts (cleared m i) n = rw stored at (store-accepted f queue n m m′ w a e) in
-      rw (what, stored, zero-add) (after-remove m _ _ _ c i a legal low (ih (cleared m i) accepted))
-  by-case k m m′ w a e ih (consumes c legal nothing what stored) =
+      let word = cleared-control m i in
+      let on : control.standing (controlOf (cleared m i)) ≡ Open = ap control.standing word ∙ d .open-for-it in
+      let same : atRd f queue (cleared m i) ≡ Legal c = ap (λ (x : ℕ). decodeAt f queue (control.slot x)) word ∙ legal in
+      rw (what, stored, zero-add) (after-remove m _ _ _ c i a legal low (reaches f queue k (cleared m i) c on same) (ih (cleared m i) accepted))
+  by-case k m m′ w a e ih d (consumes c legal nothing what stored) =
       let accepted = rw stored at (store-accepted f queue n m m′ w a e) in
       rw (what, stored, one-add) (after-consume m _ _ _ c a legal nothing (ih _ accepted))
-  by-case k m m′ w a e ih (raises illegal what stored) = rw (what, stored) (raised-found m (omega (arith, a .size .words)))
+  by-case k m m′ w a e ih d (raises illegal what stored) = rw (what, stored) (raised-found m (omega (arith, a .size .words)) illegal)
 
   by-next : (k : ℕ) (m : List ℕ) (d : Next (List ℕ)) → dueIn f queue m ≡ d → Accepts m n → ((m″ : List ℕ) → Accepts m″ n → After m″ (run f queue k m″)) → After m (next (run f queue k) d m)
   by-next k m (rests r) e a ih = rest-still r m
-  by-next k m (stores w m′) e a ih = by-case k m m′ w a e ih (is-due f queue m w m′ e .kind)
+  by-next k m (stores w m′) e a ih = let d = is-due f queue m w m′ e in by-case k m m′ w a e ih d (d .kind)
 
   by-last : (m : List ℕ) (d : Next (List ℕ)) → After m (last d m)
   by-last m (rests r) = rest-still r m
-  by-last m (stores w m′) = still Cut m refl
+  by-last m (stores w m′) = still Cut m refl (λ r. let z : _≡_ {A = ℕ} 0 1 = cc in omega arith)
 
   -- for every allowance, and whatever the end
   pub found-after : (k : ℕ) (m : List ℕ) → Accepts m n → Found f queue n (run f queue k m .ran .consumed) (run f queue k m .ran .end) m (run f queue k m .memory)
   unfolding runBy
   found-after zero m a = by-last m (dueIn f queue m)
   found-after (suc k) m a = by-next k m (dueIn f queue m) refl a (λ m″ b. found-after k m″ b)
+
+  -- so a row that was in the scope of a consumed command has word 0 zero
+  pub consumed-empties : (k : ℕ) (m : List ℕ) → Accepts m n → (t i : ℕ) (c : Command) → t < run f queue k m .ran .consumed → i < n
+      → commandAt f queue (controlOf m) t ≡ Legal c → scopedAt f c m i ≡ true → getD (run f queue k m .memory) (word0 i) 0 ≡ 0
+  unfolding scopedAt rowAt
+  consumed-empties k m a t i c h l is scope =
+      let found = found-after k m a in
+      let z = found .gone t h in
+      let same : z .command ≡ c = cc (z .is-command) in
+      ⊎-elim
+      (λ s. clash (ap (λ (row : Row). inScope f c row) s ∙ scope) (rw same at (z .gone i l)))
+      (λ e. eqb-true (getD (run f queue k m .memory) (word0 i) 0) 0 e)
+      (row-after m (run f queue k m .memory) _ _ found i l)

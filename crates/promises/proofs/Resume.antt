@@ -21,6 +21,12 @@ rest-uncut Rest·Off e = let z : _≡_ {A = ℕ} 0 1 = cc in omega arith
 rest-uncut Rest·Held e = let z : _≡_ {A = ℕ} 0 1 = cc in omega arith
 rest-uncut Rest·Empty e = let z : _≡_ {A = ℕ} 0 1 = cc in omega arith
 
+-- nor the error raised
+pub rest-unraised : (r : Rest) → endOf r ≡ Raised → ⊥
+rest-unraised Rest·Off e = let z : _≡_ {A = ℕ} 0 1 = cc in omega arith
+rest-unraised Rest·Held e = let z : _≡_ {A = ℕ} 0 1 = cc in omega arith
+rest-unraised Rest·Empty e = let z : _≡_ {A = ℕ} 0 1 = cc in omega arith
+
 module _ {M : Type 0} (f : M → Next M) (j : ℕ) where
   Resumes : ℕ → M → Type 0
   Resumes k m = runBy f k m .ran .end ≡ Cut → runBy f (k + j) m ≡ _then_ (runBy f k m) (runBy f j (runBy f k m .memory))

@@ -9,7 +9,6 @@ use lib.ListN.{length, set}
 use lib.Seq.{getD-set-same}
 use Rattle.control.specs.Control as control
 use Rattle.control.specs.declared.Rest.{Rest}
-use Rattle.control.specs.declared.Rest.the-variants.{Off as Rest·Off, Held as Rest·Held, Empty as Rest·Empty}
 use Rattle.control.proofs.Openness.{open-enabled, open-quiet}
 use Rattle.control_stores.specs.Stores as control-stores
 use Rattle.control_stores.proofs.AfterStores.{raised-keeps, raised-active}
@@ -25,6 +24,7 @@ use Rattle.runs.specs.Running.{Out, Next, rests, stores, rested, last, next, ru
 use Rattle.runs.specs.Call.{queueGood, byCheck, call, Calls}
 use Rattle.promises.proofs.Accepted.{run-accepted, store-accepted}
 use Rattle.promises.proofs.Cases.{Case, removes, consumes, raises, is-due}
+use Rattle.promises.proofs.Resume.{rest-unraised}
 use Rattle.promises.proofs.IllegalCommands.{error-holds}
 
 -- two outcomes that the contract allows for one input are equal
@@ -59,18 +59,13 @@ module _ {M : Type 0} (f : M → Next M) (P : M → Type 0) (keep : (m m′ : M)
     pub held-before : P before
     pub was-due : f before ≡ stores Raise m′
 
-  not-raised : (r : Rest) → endOf r ≡ Raised → ⊥
-  not-raised Rest·Off e = let z : _≡_ {A = ℕ} 0 1 = cc in omega arith
-  not-raised Rest·Held e = let z : _≡_ {A = ℕ} 0 1 = cc in omega arith
-  not-raised Rest·Empty e = let z : _≡_ {A = ℕ} 0 1 = cc in omega arith
-
   by-last : (m : M) (d : Next M) → last d m .ran .end ≡ Raised → RaisedBy (last d m .memory)
-  by-last m (rests r) e = absurd (not-raised r e)
+  by-last m (rests r) e = absurd (rest-unraised r e)
   by-last m (stores w m′) e = let z : _≡_ {A = ℕ} 0 1 = cc in absurd (omega arith)
 
   by-next : (k : ℕ) (m : M) (d : Next M) → f m ≡ d → P m → ((m′ : M) → P m′ → runBy f k m′ .ran .end ≡ Raised → RaisedBy (runBy f k m′ .memory))
       → next (runBy f k) d m .ran .end ≡ Raised → RaisedBy (next (runBy f k) d m .memory)
-  by-next k m (rests r) same p ih e = absurd (not-raised r e)
+  by-next k m (rests r) same p ih e = absurd (rest-unraised r e)
   by-next k m (stores Remove m′) same p ih e = ih m′ (keep m m′ Remove p same) e
   by-next k m (stores (Consume y) m′) same p ih e = ih m′ (keep m m′ (Consume y) p same) e
   by-next k m (stores Raise m′) same p ih e = record { before = m; held-before = p; was-due = same }

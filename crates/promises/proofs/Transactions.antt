@@ -61,4 +61,6 @@ pub none-through-consumed : (f : Features) (queue : List ℕ) (n k : ℕ) (m : L
 none-through-consumed f queue n k m a w i e t c h l =
     let m′ = run f queue k m .memory in
     let rows : rowsIn m′ ≡ n = rows-are m′ n (run-accepted f queue n k m a .size) in
-    found-after f queue n k m a .gone t i c h (rw rows at (found-below m′ w i e)) l
+    let z = found-after f queue n k m a .gone t h in
+    let same : z .command ≡ c = cc (z .is-command) in
+    rw same at (z .gone i (rw rows at (found-below m′ w i e)))

@@ -1,3 +1,4 @@
+pub mod Places
 pub mod Bench
 pub mod Cuts
 pub mod Sums

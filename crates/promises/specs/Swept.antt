@@ -3,24 +3,24 @@
 use mathlib.Core.Path.{_≡_}
 use mathlib.Core.Bool.{true, false}
 use mathlib.Core.List.{List}
-use Prim.Native.Nat.{ℕ, suc, _+_, _*_, _<_}
+use Prim.Native.Nat.{ℕ, suc, _+_, _<_}
 use lib.ListN.{length, getD}
 use Rattle.words.specs.Search.{count}
-use Rattle.control_stores.specs.Stores as control-stores
 use Rattle.commands.specs.declared.Features.{Features}
 use Rattle.commands.specs.declared.Command.{Command}
 use Rattle.commands.specs.declared.Decoded.the-variants.{Legal}
 use Rattle.commands.specs.Decoding.{syncsOf}
 use Rattle.image.specs.Image.{controlOf}
-use Rattle.steps.specs.Due.{scopedAt}
+use Rattle.steps.specs.Due.{scopedAt, afterCommand}
 use Rattle.runs.specs.Running.{plus, run}
+use Rattle.promises.specs.Places.{word0}
 
 -- the rows in scope have word 0 zero, RD is one on, and every other word is as it was
 pub record Swept (f : Features) (c : Command) (n : ℕ) (m m′ : List ℕ) : Type 0 where
-  pub control-word : controlOf m′ ≡ control-stores.consumed (controlOf m)
-  pub gone : (i : ℕ) → i < n → scopedAt f c m i ≡ true → getD m′ (4 * i + 1) 0 ≡ 0
-  pub spared : (i : ℕ) → i < n → scopedAt f c m i ≡ false → getD m′ (4 * i + 1) 0 ≡ getD m (4 * i + 1) 0
-  pub others : (p : ℕ) → (p ≡ 0 → ⊥) → ((i : ℕ) → i < n → p ≡ 4 * i + 1 → ⊥) → getD m′ p 0 ≡ getD m p 0
+  pub control-word : controlOf m′ ≡ afterCommand (Legal c) (controlOf m)
+  pub gone : (i : ℕ) → i < n → scopedAt f c m i ≡ true → getD m′ (word0 i) 0 ≡ 0
+  pub spared : (i : ℕ) → i < n → scopedAt f c m i ≡ false → getD m′ (word0 i) 0 ≡ getD m (word0 i) 0
+  pub others : (p : ℕ) → (p ≡ 0 → ⊥) → ((i : ℕ) → i < n → p ≡ word0 i → ⊥) → getD m′ p 0 ≡ getD m p 0
   pub long : length m′ ≡ length m
 
 -- a run with allowance for the rows in scope and the command itself sweeps them, consumes it, and goes on from there
