@@ -70,13 +70,17 @@ doorbell-keeps-error w v = same-active w (control-stores.rung w v) (rung-keeps w
 pub switch-keeps-error : (w : ℕ) (on : Bool) → control.active (control-stores.switched w on) ≡ control.active w
 switch-keeps-error w on = same-active w (control-stores.switched w on) (switched-keeps w on control.gerrorBits tt) (switched-keeps w on control.gerrornBits tt)
 
--- raised once more, or acknowledged: the same slot
+-- raised, and acknowledged: the same slot
 module _ (w : ℕ) where
+  pub raised-slot : control.slot (control-stores.raised w) ≡ control.slot w
+  unfolding control.slot
+  raised-slot = rw (raised-keeps w control.log2sizeBits tt tt, raised-keeps w control.rdBits tt tt)
+
   pub same-slot : control.slot (control-stores.acknowledged (control-stores.raised w)) ≡ control.slot w
   unfolding control.slot
   same-slot =
       let r = control-stores.raised w in
-      rw (acknowledged-keeps r control.log2sizeBits tt, acknowledged-keeps r control.rdBits tt, raised-keeps w control.log2sizeBits tt tt, raised-keeps w control.rdBits tt tt)
+      rw (acknowledged-keeps r control.log2sizeBits tt, acknowledged-keeps r control.rdBits tt) raised-slot
 
   reopens : control.standing w ≡ Open → control.standing (control-stores.acknowledged (control-stores.raised w)) ≡ Open
   reopens on =

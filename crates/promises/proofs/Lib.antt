@@ -9,3 +9,6 @@ pub mod IllegalCommands
 pub mod LegalCommands
 pub mod RunCalls
 pub mod Transactions
+pub mod Ends
+pub mod Order
+pub mod Calls

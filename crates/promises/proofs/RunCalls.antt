@@ -11,8 +11,9 @@ use Rattle.control.specs.Control as control
 use Rattle.control.specs.declared.Rest.{Rest}
 use Rattle.control.proofs.Openness.{open-enabled, open-quiet}
 use Rattle.control_stores.specs.Stores as control-stores
-use Rattle.control_stores.proofs.AfterStores.{raised-keeps, raised-active}
+use Rattle.control_stores.proofs.AfterStores.{raised-keeps, raised-active, raised-err}
 use Rattle.commands.specs.declared.Features.{Features}
+use Rattle.commands.specs.Decoding.{decodeAt}
 use Rattle.image.specs.declared.Checked.{Checked}
 use Rattle.image.specs.declared.Checked.the-variants.{Accepted, Refused as NotAccepted}
 use Rattle.image.specs.Image.{check, controlOf}
@@ -22,10 +23,11 @@ use Rattle.runs.specs.declared.End.the-variants.{Held, Raised}
 use Rattle.runs.specs.declared.RunAnswer.{RunAnswer}
 use Rattle.runs.specs.Running.{Out, Next, rests, stores, rested, last, next, runBy, dueIn, run, endOf}
 use Rattle.runs.specs.Call.{queueGood, byCheck, call, Calls}
+use Rattle.promises.specs.Ends.{IsRaised}
 use Rattle.promises.proofs.Accepted.{run-accepted, store-accepted}
 use Rattle.promises.proofs.Cases.{Case, removes, consumes, raises, is-due}
 use Rattle.promises.proofs.Resume.{rest-unraised}
-use Rattle.promises.proofs.IllegalCommands.{error-holds}
+use Rattle.promises.proofs.IllegalCommands.{raised-slot, error-holds}
 
 -- two outcomes that the contract allows for one input are equal
 module _ {f : Features} {queue : List ℕ} {k : ℕ} {m m₁ m₂ : List ℕ} {r₁ r₂ : RunAnswer} where
@@ -76,23 +78,29 @@ module _ {M : Type 0} (f : M → Next M) (P : M → Type 0) (keep : (m m′ : M)
   raised-by (suc k) m p e = by-next k m (f m) refl p (λ m′ q c. raised-by k m′ q c) e
 
 module _ (f : Features) (queue : List ℕ) (n : ℕ) where
-  held-again : (m m′ : List ℕ) → Accepts m n → dueIn f queue m ≡ stores Raise m′ → (k : ℕ) → run f queue k m′ ≡ rested Held m′
-  held-again m m′ a e k = by-case (is-due f queue m Raise m′ e .kind)
+  -- what raising the error leaves
+  pub raised-left : (m m′ : List ℕ) → Accepts m n → dueIn f queue m ≡ stores Raise m′ → IsRaised f queue m′
+  raised-left m m′ a e = by-case (is-due f queue m Raise m′ e .kind)
     where
       w : ℕ
       w = controlOf m
 
-      by-case : Case f queue m Raise m′ → run f queue k m′ ≡ rested Held m′
+      by-case : Case f queue m Raise m′ → IsRaised f queue m′
       by-case (removes c i legal low what stored) = let z : _≡_ {A = ℕ} 0 1 = cc in absurd (omega arith)
       by-case (consumes c legal nothing what stored) = let z : _≡_ {A = ℕ} 0 1 = cc in absurd (omega arith)
       by-case (raises illegal what stored) =
           let on = is-due f queue m Raise m′ e .open-for-it in
           let word : controlOf m′ ≡ control-stores.raised w = ap controlOf stored ∙ getD-set-same m 0 (control-stores.raised w) 0 (omega (arith, a .size .words)) in
-          error-holds f queue m′ k (ap control.active word ∙ raised-active w (open-quiet w on))
-          (λ z. open-enabled w on (sym (raised-keeps w control.cmdqenBits tt tt) ∙ ap control.cmdqen (sym word) ∙ z))
+          record {
+            enabled = λ z. open-enabled w on (sym (raised-keeps w control.cmdqenBits tt tt) ∙ ap control.cmdqen (sym word) ∙ z);
+            in-error = ap control.active word ∙ raised-active w (open-quiet w on);
+            code = ap control.err word ∙ raised-err w;
+            illegal = ap (λ (x : ℕ). decodeAt f queue (control.slot x)) word ∙ ap (λ (s : ℕ). decodeAt f queue s) (raised-slot w) ∙ illegal;
+          }
 
   -- repeating a run that ended Raised: Held, and no word changes
   pub raised-then-held : (k j : ℕ) (m : List ℕ) → Accepts m n → run f queue k m .ran .end ≡ Raised → run f queue j (run f queue k m .memory) ≡ rested Held (run f queue k m .memory)
   raised-then-held k j m a e =
       let r = raised-by (dueIn f queue) (λ x. Accepts x n) (store-accepted f queue n) k m a e in
-      held-again (r .before) (run f queue k m .memory) (r .held-before) (r .was-due) j
+      let left = raised-left (r .before) (run f queue k m .memory) (r .held-before) (r .was-due) in
+      error-holds f queue (run f queue k m .memory) j (left .in-error) (left .enabled)

@@ -10,6 +10,7 @@ use Rattle.runs.specs.declared.End.{End}
 use Rattle.runs.specs.declared.End.the-variants.{Off, Held, Empty, Raised, Cut}
 use Rattle.runs.specs.Running.{Out, Next, rests, stores, rested, plus, last, next, runBy, endOf}
 use Rattle.promises.specs.Sums.{raise}
+use Rattle.promises.specs.Ends.{Spent}
 use Rattle.promises.proofs.Resume.{rest-uncut}
 
 rest-raise : (r : Rest) → raise (endOf r) ≡ 0
@@ -53,27 +54,21 @@ module _ {M : Type 0} (f : M → Next M) where
   within-allowance zero m = within-last m (f m)
   within-allowance (suc k) m = within-next k m (f m) (λ m′. within-allowance k m′)
 
-  -- Cut: the allowance is spent, and a store was due
-  pub record Spent (k : ℕ) (o : Out M) : Type 0 where
-    pub all : o .ran .stores ≡ k
-    pub what : What
-    pub next-memory : M
-    pub was-due : f (o .memory) ≡ stores what next-memory
-
-  spent-last : (m : M) (d : Next M) → f m ≡ d → last d m .ran .end ≡ Cut → Spent 0 (last d m)
+  spent-last : (m : M) (d : Next M) → f m ≡ d → last d m .ran .end ≡ Cut → Spent f 0 (last d m)
   spent-last m (rests r) same cut = absurd (rest-uncut r cut)
   spent-last m (stores w m′) same cut = record { all = refl; what = w; next-memory = m′; was-due = same }
 
-  one-more : (k c r y : ℕ) (o : Out M) → Spent k o → Spent (suc k) (plus c 1 r y o)
+  one-more : (k c r y : ℕ) (o : Out M) → Spent f k o → Spent f (suc k) (plus c 1 r y o)
   one-more k c r y o s = record { all = omega (arith, s .all); what = s .what; next-memory = s .next-memory; was-due = s .was-due }
 
-  spent-next : (k : ℕ) (m : M) (d : Next M) → ((m′ : M) → runBy f k m′ .ran .end ≡ Cut → Spent k (runBy f k m′)) → next (runBy f k) d m .ran .end ≡ Cut → Spent (suc k) (next (runBy f k) d m)
+  spent-next : (k : ℕ) (m : M) (d : Next M) → ((m′ : M) → runBy f k m′ .ran .end ≡ Cut → Spent f k (runBy f k m′)) → next (runBy f k) d m .ran .end ≡ Cut → Spent f (suc k) (next (runBy f k) d m)
   spent-next k m (rests r) ih cut = absurd (rest-uncut r cut)
   spent-next k m (stores Remove m′) ih cut = one-more k 0 1 0 (runBy f k m′) (ih m′ cut)
   spent-next k m (stores (Consume y) m′) ih cut = one-more k 1 0 y (runBy f k m′) (ih m′ cut)
   spent-next k m (stores Raise m′) ih cut = let z : _≡_ {A = ℕ} 0 1 = cc in absurd (omega arith)
 
-  pub cut-means : (k : ℕ) (m : M) → runBy f k m .ran .end ≡ Cut → Spent k (runBy f k m)
+  -- Cut: the allowance is spent, and a store was due
+  pub cut-means : (k : ℕ) (m : M) → runBy f k m .ran .end ≡ Cut → Spent f k (runBy f k m)
   unfolding runBy
   cut-means zero m cut = spent-last m (f m) refl cut
   cut-means (suc k) m cut = spent-next k m (f m) (λ m′ c. cut-means k m′ c) cut

@@ -4,3 +4,6 @@ pub mod Cuts
 pub mod Sums
 pub mod Found
 pub mod Swept
+pub mod Ends
+pub mod Order
+pub mod Calls
