@@ -197,49 +197,49 @@ fill-again m n row words c k k′ h h′ =
         (after-enough row words k′ (afterStores k (fillStores row words) m) h′ ∙ over-cut row words m k h
         ∙ sym (after-enough row words k′ m h′))
 
--- which way a fill goes: refused and nothing stored, or carried out
-pub data Goes (m : List ℕ) (row : ℕ) (words : Row) (k : ℕ) : Type 0 where
-  stops : (why : FillRefusal) → fill m row words k ≡ refused why m → Goes m row words k
-  stores : (n : ℕ) → Carried m n row words → Goes m row words k
+-- which way a fill goes, whatever its allowance is: refused and nothing stored, or carried out
+pub data Goes (m : List ℕ) (row : ℕ) (words : Row) : Type 0 where
+  stops : (why : FillRefusal) → ((k : ℕ) → fill m row words k ≡ refused why m) → Goes m row words
+  stores : (n : ℕ) → Carried m n row words → Goes m row words
 
-module _ (m : List ℕ) (row : ℕ) (words : Row) (k : ℕ) where
-  pub which-way : Goes m row words k
+module _ (m : List ℕ) (row : ℕ) (words : Row) where
+  pub which-way : Goes m row words
   unfolding isUsed fit
   which-way = by-check (check m) refl
     where
-      by-fit : (n : ℕ) → check m ≡ Accepted n → row < n → isUsed m row ≡ false → (t : Bool) → fit words ≡ t → Goes m row words k
-      by-fit n e h u false t = stops Unfit (fill-unfit m row words k n e h u t)
+      by-fit : (n : ℕ) → check m ≡ Accepted n → row < n → isUsed m row ≡ false → (t : Bool) → fit words ≡ t → Goes m row words
+      by-fit n e h u false t = stops Unfit (λ k. fill-unfit m row words k n e h u t)
       by-fit n e h u true t =
           let formed : rows.wellFormed words ≡ true = left (rows.wellFormed words) (not (isEmpty words)) t in
           let some : isEmpty words ≡ false = not-true (isEmpty words) (right (rows.wellFormed words) (not (isEmpty words)) t) in
           let empty : isEmpty (rowAt m row) ≡ true = not-false (isEmpty (rowAt m row)) u in
           stores n (record { image = says m .accepted n e; below = h; empty = empty; formed = formed; some = some })
 
-      by-use : (n : ℕ) → check m ≡ Accepted n → row < n → (t : Bool) → isUsed m row ≡ t → Goes m row words k
-      by-use n e h true u = stops RowInUse (fill-in-use m row words k n e h u)
+      by-use : (n : ℕ) → check m ≡ Accepted n → row < n → (t : Bool) → isUsed m row ≡ t → Goes m row words
+      by-use n e h true u = stops RowInUse (λ k. fill-in-use m row words k n e h u)
       by-use n e h false u = by-fit n e h u (fit words) refl
 
-      by-check : (t : Checked) → check m ≡ t → Goes m row words k
-      by-check (Refused why) e = stops (Image why) (fill-image m row words k why e)
+      by-check : (t : Checked) → check m ≡ t → Goes m row words
+      by-check (Refused why) e = stops (Image why) (λ k. fill-image m row words k why e)
       by-check (Accepted n) e =
-          ⊎-elim (λ h. by-use n e h (isUsed m row) refl) (λ h. stops NoSuchRow (fill-no-row m row words k n e h)) (less-or-not row n)
+          ⊎-elim (λ h. by-use n e h (isUsed m row) refl) (λ h. stops NoSuchRow (λ k. fill-no-row m row words k n e h)) (less-or-not row n)
 
   -- a refusal stores nothing
-  pub refused-leaves : (why : FillRefusal) → fill m row words k .answer ≡ NotFilled why → fill m row words k .memory ≡ m
-  refused-leaves why e = by-way which-way
+  pub refused-leaves : (k : ℕ) (why : FillRefusal) → fill m row words k .answer ≡ NotFilled why → fill m row words k .memory ≡ m
+  refused-leaves k why e = by-way which-way
     where
-      by-way : Goes m row words k → fill m row words k .memory ≡ m
-      by-way (stops why′ g) = ap (λ (o : Outcome). o .memory) g
+      by-way : Goes m row words → fill m row words k .memory ≡ m
+      by-way (stops why′ g) = ap (λ (o : Outcome). o .memory) (g k)
       by-way (stores n c) =
           let z : _≡_ {A = ℕ} 0 1 = cc (ap (λ (o : Outcome). o .answer) (carried m n row words c k)) in
           absurd (omega arith)
 
   -- an accepted image stays accepted, whatever is answered and wherever the power goes
-  pub accepted-at-every-allowance : (n : ℕ) → Accepts m n → Accepts (fill m row words k .memory) n
-  accepted-at-every-allowance n a = by-way which-way
+  pub accepted-at-every-allowance : (k n : ℕ) → Accepts m n → Accepts (fill m row words k .memory) n
+  accepted-at-every-allowance k n a = by-way which-way
     where
-      by-way : Goes m row words k → Accepts (fill m row words k .memory) n
-      by-way (stops why g) = rw (ap (λ (o : Outcome). o .memory) g) a
+      by-way : Goes m row words → Accepts (fill m row words k .memory) n
+      by-way (stops why g) = rw (ap (λ (o : Outcome). o .memory) (g k)) a
       by-way (stores n′ c) =
           let same : n′ ≡ n = cc (accepts m n a, accepts m n′ (c .image)) in
           rw (← same) (stays-accepted m n′ row words c k)

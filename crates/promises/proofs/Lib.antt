@@ -12,3 +12,4 @@ pub mod Transactions
 pub mod Ends
 pub mod Order
 pub mod Calls
+pub mod Filling

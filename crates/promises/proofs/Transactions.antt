@@ -47,10 +47,10 @@ module _ (m : List ℕ) (row : ℕ) (words : Row) (k : ℕ) (h : k < 4) (t : Tra
       alike i (no d) = inl (other-rows-kept m n row words c k i d)
 
   pub half-filled-unseen : translate (fill m row words k .memory) t ≡ translate m t
-  half-filled-unseen = by-way (which-way m row words k)
+  half-filled-unseen = by-way (which-way m row words)
     where
-      by-way : Goes m row words k → translate (fill m row words k .memory) t ≡ translate m t
-      by-way (stops why e) = ap (λ (o : Outcome). translate (o .memory) t) e
+      by-way : Goes m row words → translate (fill m row words k .memory) t ≡ translate m t
+      by-way (stops why e) = ap (λ (o : Outcome). translate (o .memory) t) (e k)
       by-way (stores n c) = carried-unseen n c
 
 -- what any search finds in the memory that a run leaves, at every allowance, lies in the scope of no command that it consumed

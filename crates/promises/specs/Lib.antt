@@ -7,3 +7,4 @@ pub mod Swept
 pub mod Ends
 pub mod Order
 pub mod Calls
+pub mod Filling
