@@ -13,3 +13,4 @@ pub mod Ends
 pub mod Order
 pub mod Calls
 pub mod Filling
+pub mod Numbers

@@ -8,3 +8,4 @@ pub mod Ends
 pub mod Order
 pub mod Calls
 pub mod Filling
+pub mod Numbers

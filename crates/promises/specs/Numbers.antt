@@ -1,0 +1,109 @@
+-- Document 01, When the unit says no: the table, with each call's numbers in their order.
+-- Assumes nothing.
+use mathlib.Core.Bool.{Bool, true, false, not}
+use mathlib.Core.List.{List, [], _∷_}
+use Prim.Native.Nat.{ℕ}
+use lib.Dec.{leb}
+use Rattle.words.specs.Choice.{pick}
+use Rattle.words.specs.Search.{lowest}
+use Rattle.words.specs.declared.Found.{Found}
+use Rattle.words.specs.declared.Found.the-variants.{At, Nothing}
+use Rattle.attributes.specs.Formats as attributes
+use Rattle.rows.specs.declared.Row.{Row}
+use Rattle.control.specs.Control as control
+use Rattle.control_stores.specs.Stores.{mayRing}
+use Rattle.image.specs.Image as image
+use Rattle.runs.specs.declared.End.{End}
+use Rattle.runs.specs.declared.End.the-variants.{Off, Held, Empty, Raised, Cut}
+use Rattle.runs.specs.declared.RunAnswer.{RunAnswer}
+use Rattle.runs.specs.declared.RunAnswer.the-variants.{Refused as NotRun, Done as DidRun}
+use Rattle.runs.specs.Call as runs
+use Rattle.fills.specs.declared.FillEnd.{FillEnd}
+use Rattle.fills.specs.declared.FillEnd.the-variants.{Filled, Cut as Fill·Cut}
+use Rattle.fills.specs.declared.FillAnswer.{FillAnswer}
+use Rattle.fills.specs.declared.FillAnswer.the-variants.{Refused as NotFilled, Done as DidFill}
+use Rattle.fills.specs.Fills as fills
+use Rattle.control_calls.specs.declared.DoorbellAnswer.{DoorbellAnswer}
+use Rattle.control_calls.specs.declared.DoorbellAnswer.the-variants.{Refused as NotRung, Rung}
+use Rattle.control_calls.specs.declared.AcknowledgeAnswer.{AcknowledgeAnswer}
+use Rattle.control_calls.specs.declared.AcknowledgeAnswer.the-variants.{Refused as NotAcknowledged, Acknowledged}
+use Rattle.control_calls.specs.declared.EnableAnswer.{EnableAnswer}
+use Rattle.control_calls.specs.declared.EnableAnswer.the-variants.{Refused as NotSwitched, Switched}
+use Rattle.control_calls.specs.Calls as control-calls
+use Rattle.transactions.specs.declared.Transaction.{Transaction}
+use Rattle.transactions.specs.declared.TransactionAnswer.{TransactionAnswer}
+use Rattle.transactions.specs.declared.TransactionAnswer.the-variants.{Refused as NotTranslated, Done as DidTranslate}
+use Rattle.transactions.specs.Call as transactions
+
+-- the number of an answer: its refusal's, or 0 where the call was carried out
+abbrev pub runNumber : RunAnswer → ℕ
+runNumber (NotRun why) = runs.number why
+runNumber (DidRun ran) = 0
+
+abbrev pub fillNumber : FillAnswer → ℕ
+fillNumber (NotFilled why) = fills.number why
+fillNumber (DidFill filling) = 0
+
+abbrev pub doorbellNumber : DoorbellAnswer → ℕ
+doorbellNumber (NotRung why) = control-calls.doorbellNumber why
+doorbellNumber Rung = 0
+
+abbrev pub acknowledgeNumber : AcknowledgeAnswer → ℕ
+acknowledgeNumber (NotAcknowledged why) = control-calls.acknowledgeNumber why
+acknowledgeNumber Acknowledged = 0
+
+abbrev pub enableNumber : EnableAnswer → ℕ
+enableNumber (NotSwitched why) = image.number why
+enableNumber Switched = 0
+
+abbrev pub translateNumber : TransactionAnswer → ℕ
+translateNumber (NotTranslated why) = transactions.number why
+translateNumber (DidTranslate outcome) = 0
+
+-- a number and when it applies; of several the first that does, or 0
+pub record Rule : Type 0 where
+  pub number : ℕ
+  pub applies : Bool
+
+abbrev pub first : List Rule → ℕ
+first [] = 0
+first (r ∷ rs) = pick (r .applies) (r .number) (first rs)
+
+abbrev pub some : Found → Bool
+some (At i) = true
+some Nothing = false
+
+-- tried first, by every call
+abbrev pub ofImage : List ℕ → List Rule
+ofImage m =
+    record { number = 1; applies = not (image.lengthGood m) }
+    ∷ record { number = 2; applies = not (control.wellFormed (image.controlOf m)) }
+    ∷ record { number = 3; applies = some (lowest (image.isBad m) (image.rowsIn m) 0) }
+    ∷ []
+
+-- then each call's own
+abbrev pub ofRun : List ℕ → List ℕ → List Rule
+ofRun queue m = record { number = 4; applies = not (runs.queueGood queue m) } ∷ []
+
+abbrev pub ofDoorbell : List ℕ → ℕ → List Rule
+ofDoorbell m wr = record { number = 5; applies = not (mayRing (image.controlOf m) wr) } ∷ []
+
+abbrev pub ofAcknowledge : List ℕ → List Rule
+ofAcknowledge m = record { number = 6; applies = not (control.active (image.controlOf m)) } ∷ []
+
+abbrev pub ofFill : List ℕ → ℕ → Row → List Rule
+ofFill m row words =
+    record { number = 7; applies = leb (image.rowsIn m) row }
+    ∷ record { number = 8; applies = image.isUsed m row }
+    ∷ record { number = 9; applies = not (fills.fit words) }
+    ∷ []
+
+abbrev pub ofTransaction : Transaction → List Rule
+ofTransaction t = record { number = 10; applies = not (attributes.wellFormed (t .attributes)) } ∷ []
+
+-- the ends in the order of their numbers
+abbrev pub runEnds : List End
+runEnds = Off ∷ Held ∷ Empty ∷ Raised ∷ Cut ∷ []
+
+abbrev pub fillEnds : List FillEnd
+fillEnds = Filled ∷ Fill·Cut ∷ []
