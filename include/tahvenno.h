@@ -28,15 +28,22 @@
  * 1, 2 and 3 are tried first, by every call.
  *
  * Power cuts. A run and a fill store single 64-bit words, in an order that does not depend on the allowance, and make at most
- * `allowance` of them: a call with allowance k leaves what a power cut after its k-th store leaves. After a restart:
+ * `allowance` of them: a call with allowance k leaves what a power cut after its k-th store leaves. The other calls store one
+ * word or none. The stores are plain ones with no barrier between them: docs/BOX.md says what the memory, or the caller, has to
+ * do so that they arrive in this order. After a restart, in this order:
  *
- *   run   call it again, with any allowance and the same queue and features, until it does not end Cut. Memory and the sums
- *         of the four counts are then those of a run that was never cut.
- *   fill  call it again with the same words and an allowance of 4 or more: it starts from its first store every time, and
- *         until its last store the row is an empty one.
+ *   1. Drop the fill that was under way, and whatever was walked before the cut.
+ *   2. Call run, with the same queue and features, until it does not end Cut. The memory is then that of a run that was never
+ *      cut.
+ *   3. Walk the guest's tables again for what is missing, and fill.
  *
- * The other calls store one word or none. The stores are plain ones with no barrier between them: docs/BOX.md says what the
- * memory, or the caller, has to do so that they arrive in this order.
+ * Do not repeat the fill instead. After the run it can make a stale row valid: the command that should have removed the row was
+ * consumed while the row was still empty. Before the run it can bring back a row that a command has removed: the fill had
+ * finished, and a run removed its row and was cut. (A fill is also called again without any cut, with growing allowances, where
+ * a barrier is wanted after each store: it starts from its first store every time, and until its last store the row is empty.)
+ *
+ * Walk and fill. No run may come between the first read of a walk and the last store of its fill, cut or no cut: the run may
+ * consume the command for a change that the walk did not see, and the fill would then make the old mapping valid again.
  */
 #ifndef TAHVENNO_H
 #define TAHVENNO_H
