@@ -32,15 +32,24 @@
  * word or none. The stores are plain ones with no barrier between them: docs/BOX.md says what the memory, or the caller, has to
  * do so that they arrive in this order. After a restart, in this order:
  *
- *   1. Drop the fill that was under way, and whatever was walked before the cut.
- *   2. Call run, with the same queue and features, until it does not end Cut. The memory is then that of a run that was never
+ *   1. Look at RD, ERR and active by tahvenno_state, and tell the guest what it was not told.
+ *   2. Drop the fill that was under way, and whatever was walked before the cut.
+ *   3. Call run, with the same queue and features, until it does not end Cut. The memory is then that of a run that was never
  *      cut.
- *   3. Walk the guest's tables again for what is missing, and fill.
+ *   4. Walk the guest's tables again for what is missing, and fill.
  *
- * Do not repeat the fill instead. After the run it can make a stale row valid: the command that should have removed the row was
- * consumed while the row was still empty. Before the run it can bring back a row that a command has removed: the fill had
- * finished, and a run removed its row and was cut. (A fill is also called again without any cut, with growing allowances, where
- * a barrier is wanted after each store: it starts from its first store every time, and until its last store the row is empty.)
+ * To 1: a call that power cut returned nothing, and its counts are lost. The counts of calls that return, cut by their
+ * allowance, add up to those of a run that was never cut; those of the call that power cut are in no sum. So, before the first
+ * run: if an error is active, signal it, since the run that raised it may not have returned, and a run after it answers Held
+ * and not Raised. If RD has moved since the guest was last told, or nobody knows, signal a CMD_SYNC: one may have been consumed,
+ * and no later run counts it. An acknowledge that was under way is repeated now or not at all: after a run it can take away an
+ * error that nobody has seen.
+ *
+ * To 2: do not repeat the fill instead. After the run it can make a stale row valid: the command that should have removed the
+ * row was consumed while the row was still empty. Before the run it can bring back a row that a command has removed: the fill
+ * had finished, and a run removed its row and was cut. (A fill is also called again without any cut, with growing allowances,
+ * where a barrier is wanted after each store: it starts from its first store every time, and until its last store the row is
+ * empty.)
  *
  * Walk and fill. No run may come between the first read of a walk and the last store of its fill, cut or no cut: the run may
  * consume the command for a change that the walk did not see, and the fill would then make the old mapping valid again.
