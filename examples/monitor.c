@@ -3,19 +3,35 @@
 #include <stdio.h>
 #include "tahvenno.h"
 
+#define CMD_TLBI_NSNH_ALL 0x30 /* the guest's command: remove every stage 1 and stage 2 row */
+#define FEATURES (TAHVENNO_S1P | TAHVENNO_S2P)
+#define WRITE_BACK TAHVENNO_NORMAL(TAHVENNO_WB, TAHVENNO_WB)
+#define FROM UINT64_C(0x1000)
+#define TO UINT64_C(0x8000)
+
+enum { WORDS = TAHVENNO_WORDS(2), LOG2SIZE = 0, PAGE = 12, STREAM = 5, SUBSTREAM = 0 };
+
+static uint64_t ask(const uint64_t *kept, uint64_t *answer) { /* a write by the device of the stream, somewhere in the page */
+    return tahvenno_translate(kept, WORDS, STREAM, SUBSTREAM, FROM + 0x234, TAHVENNO_WRITE, WRITE_BACK, TAHVENNO_NSH, 0, answer);
+}
+
 int main(void) {
-    uint64_t kept[1 + 4 * 2] = {UINT64_C(0x2000000000000)}; /* enabled, one slot; two empty rows */
-    uint8_t queue[16] = {0x30};                             /* remove every stage 1 and stage 2 row */
-    uint64_t answer[8], refused = 0;
-    refused |= tahvenno_fill(kept, 9, 0, 0x9, UINT64_C(0x60000000000005), 0, 0, 4, answer);
-    refused |= tahvenno_fill(kept, 9, 1, UINT64_C(0x3f00000000018f), 0, 0x1000, 0x8000, 4, answer);
-    refused |= tahvenno_translate(kept, 9, 5, 0, 0x1234, TAHVENNO_WRITE, 15, 0, 0, answer);
+    uint64_t kept[WORDS] = {TAHVENNO_PUT(TAHVENNO_LOG2SIZE, LOG2SIZE) | TAHVENNO_CMDQEN}; /* enabled, one slot; two empty rows */
+    uint8_t queue[TAHVENNO_QUEUE_BYTES(LOG2SIZE)] = {CMD_TLBI_NSNH_ALL};
+    uint64_t answer[TAHVENNO_ANSWER_WORDS], refused = 0;
+    uint64_t ste = TAHVENNO_ROW(TAHVENNO_STE) | TAHVENNO_LAST_LEVEL;
+    uint64_t ste_1 = TAHVENNO_PUT(TAHVENNO_STREAM, STREAM) | TAHVENNO_PUT(TAHVENNO_CONFIG, TAHVENNO_CONFIG_STAGE2);
+    uint64_t page = TAHVENNO_ROW(TAHVENNO_STAGE2) | TAHVENNO_LAST_LEVEL | TAHVENNO_PUT(TAHVENNO_SPAN, PAGE) |
+                    TAHVENNO_PUT(TAHVENNO_MEMATTR, WRITE_BACK) | TAHVENNO_PUT(TAHVENNO_SH, TAHVENNO_ISH);
+    refused |= tahvenno_fill(kept, WORDS, 0, ste, ste_1, 0, 0, TAHVENNO_ROW_WORDS, answer);
+    refused |= tahvenno_fill(kept, WORDS, 1, page, 0, FROM, TO, TAHVENNO_ROW_WORDS, answer);
+    refused |= ask(kept, answer);
     printf("before: outcome %" PRIu64 ", address %" PRIx64 "\n", answer[0], answer[1]);
-    refused |= tahvenno_doorbell(kept, 9, 1, answer);
+    refused |= tahvenno_doorbell(kept, WORDS, 1, answer);
     do { /* one store a call, as if power went after each */
-        refused |= tahvenno_run(kept, 9, queue, 16, TAHVENNO_S1P | TAHVENNO_S2P, 1, answer);
+        refused |= tahvenno_run(kept, WORDS, queue, sizeof queue, FEATURES, 1, answer);
     } while (refused == 0 && answer[0] == TAHVENNO_CUT);
-    refused |= tahvenno_translate(kept, 9, 5, 0, 0x1234, TAHVENNO_WRITE, 15, 0, 0, answer);
+    refused |= ask(kept, answer);
     printf("after: outcome %" PRIu64 "\n", answer[0]);
     return refused != 0;
 }

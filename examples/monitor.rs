@@ -1,4 +1,4 @@
-//! A monitor's calls from Rust: the same as monitor.c.
+//! A monitor's calls from Rust: the same as monitor.c. The constants are those of include/tahvenno.h.
 extern "C" {
     fn tahvenno_fill(kept: *mut u64, words: usize, row: u64, w0: u64, w1: u64, w2: u64, w3: u64, allowance: u64, answer: *mut u64) -> u64;
     fn tahvenno_doorbell(kept: *mut u64, words: usize, wr: u64, answer: *mut u64) -> u64;
@@ -6,18 +6,65 @@ extern "C" {
     fn tahvenno_translate(kept: *const u64, words: usize, stream: u32, substream: u32, address: u64, how: u64, memattr: u64, sh: u64, hints: u64, answer: *mut u64) -> u64;
 }
 
+const ROW_WORDS: usize = 4;
+const SLOT_BYTES: usize = 16;
+const ANSWER_WORDS: usize = 8;
+const S1P: u64 = 1 << 0;
+const S2P: u64 = 1 << 1;
+const CUT: u64 = 4;
+const WRITE: u64 = 1 << 0;
+
+// The lowest bits of the parts of the control word and of a row's words 0 and 1.
+const CMDQEN: u32 = 49;
+const LOG2SIZE: u32 = 50;
+const VALID: u32 = 0;
+const KIND: u32 = 1;
+const LAST_LEVEL: u32 = 3;
+const SPAN: u32 = 5;
+const MEMATTR: u32 = 48;
+const SH: u32 = 52;
+const STREAM: u32 = 0;
+const CONFIG: u32 = 52;
+
+// What stands in them: kinds, a Config, both halves WB, NSH and ISH.
+const STE: u64 = 0;
+const STAGE2: u64 = 3;
+const CONFIG_STAGE2: u64 = 6;
+const WRITE_BACK: u64 = 15;
+const NSH: u64 = 0;
+const ISH: u64 = 3;
+
+const CMD_TLBI_NSNH_ALL: u8 = 0x30; // the guest's command: remove every stage 1 and stage 2 row
+const WORDS: usize = 1 + 2 * ROW_WORDS;
+const FILL_STORES: u64 = ROW_WORDS as u64;
+const STREAM_ID: u32 = 5;
+const SUBSTREAM_ID: u32 = 0;
+const PAGE: u64 = 12;
+const FROM: u64 = 0x1000;
+const TO: u64 = 0x8000;
+
+/// A write by the device of the stream, somewhere in the page.
+unsafe fn ask(kept: *const u64, answer: *mut u64) -> u64 {
+    tahvenno_translate(kept, WORDS, STREAM_ID, SUBSTREAM_ID, FROM + 0x234, WRITE, WRITE_BACK, NSH, 0, answer)
+}
+
 fn main() {
-    let (mut kept, mut queue, mut answer) = ([0u64; 9], [0u8; 16], [0u64; 8]);
-    (kept[0], queue[0]) = (0x2_0000_0000_0000, 0x30); // enabled, one slot: remove every stage 1 and stage 2 row
+    let (mut kept, mut queue, mut answer) = ([0u64; WORDS], [0u8; SLOT_BYTES], [0u64; ANSWER_WORDS]);
+    kept[0] = 1 << CMDQEN | 0 << LOG2SIZE; // enabled, one slot; two empty rows
+    queue[0] = CMD_TLBI_NSNH_ALL;
+    let ste = 1 << VALID | STE << KIND | 1 << LAST_LEVEL;
+    let ste_1 = u64::from(STREAM_ID) << STREAM | CONFIG_STAGE2 << CONFIG;
+    let page = 1 << VALID | STAGE2 << KIND | 1 << LAST_LEVEL | PAGE << SPAN | WRITE_BACK << MEMATTR | ISH << SH;
     let (k, a) = (kept.as_mut_ptr(), answer.as_mut_ptr());
     unsafe {
-        assert_eq!(tahvenno_fill(k, 9, 0, 0x9, 0x60_0000_0000_0005, 0, 0, 4, a), 0);
-        assert_eq!(tahvenno_fill(k, 9, 1, 0x3f_0000_0000_018f, 0, 0x1000, 0x8000, 4, a), 0);
-        assert_eq!(tahvenno_translate(k, 9, 5, 0, 0x1234, 1, 15, 0, 0, a), 0);
+        assert_eq!(tahvenno_fill(k, WORDS, 0, ste, ste_1, 0, 0, FILL_STORES, a), 0);
+        assert_eq!(tahvenno_fill(k, WORDS, 1, page, 0, FROM, TO, FILL_STORES, a), 0);
+        assert_eq!(ask(k, a), 0);
         println!("before: outcome {}, address {:x}", *a, *a.add(1));
-        assert_eq!(tahvenno_doorbell(k, 9, 1, a), 0);
-        while tahvenno_run(k, 9, queue.as_ptr(), 16, 3, 1, a) == 0 && *a == 4 {} // one store a call, until it is not cut
-        assert_eq!(tahvenno_translate(k, 9, 5, 0, 0x1234, 1, 15, 0, 0, a), 0);
+        assert_eq!(tahvenno_doorbell(k, WORDS, 1, a), 0);
+        // one store a call, as if power went after each, until a run is not cut
+        while tahvenno_run(k, WORDS, queue.as_ptr(), queue.len(), S1P | S2P, 1, a) == 0 && *a == CUT {}
+        assert_eq!(ask(k, a), 0);
         println!("after: outcome {}", *a);
     }
 }

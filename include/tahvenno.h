@@ -1,36 +1,54 @@
 /*
  * Tahvenno: the command queue, the cached rows and the translation of an emulated Arm SMMUv3.
  *
- * Memory. The caller owns everything. `kept` points to the kept memory, `words` 64-bit words: one control word, then rows of
- * four words (at most 128 rows, so 513 words). `queue` points to the guest's command queue, `bytes` bytes of 16 a slot.
+ * MEMORY. The caller owns everything. `kept` points to the kept memory, `words` 64-bit words: one control word, then rows of
+ * four words, 1 to 128 of them; their layout is below. `queue` points to the guest's command queue, `bytes` bytes of 16 a slot.
  * `answer` points to eight words that the call fills, those not named below with zero. The unit keeps no pointer and no
  * state of its own between calls, allocates nothing, and needs no function of a C library.
  *
- * What the caller sees to, since the proof takes it for granted: no pointer is null, also where a length is 0; kept, queue and
- * answer do not overlap; and until a call returns nobody else writes to what is lent to it. So lend a private copy of the
- * guest's queue, or stop the guest: bytes that change during a call are outside the proof. One call at a time on one kept
- * memory.
+ * The caller sees to this, since the proof takes it for granted:
  *
- * What comes back. Each call returns 0 if it was carried out, else the number of its refusal, and then not one word of kept
+ *   - No pointer is null, also where a length is 0. kept, queue and answer do not overlap.
+ *   - kept and answer are aligned to 8 bytes. The queue may stand anywhere in Normal memory; where a load that is not aligned
+ *     faults (Device memory, alignment checking), align it to 8 bytes too: compiled code loads several of its bytes at once.
+ *   - Until a call returns nobody else writes to what is lent to it. So lend a private copy of the guest's queue, or stop the
+ *     guest: bytes that change during a call are outside the proof.
+ *   - One call at a time on one kept memory. docs/BOX.md has the rules for an agent that reads rows by itself.
+ *
+ * WHAT COMES BACK. Each call returns 0 if it was carried out, else the number of its refusal, and then not one word of kept
  * memory has changed. Whatever the words and bytes are, a call ends and gives one of these:
  *
  *    1  the length is not 1 + 4 N words, N from 1 to 128
  *    2  the control word is ill formed
  *    3  a row is ill formed; answer[0] is the lowest such row, counted from 0
  *    4  run: the queue's length is not 16 times 2^LOG2SIZE bytes
- *    5  doorbell: no index that WR may become
+ *    5  doorbell: wr is 2^(LOG2SIZE + 1) or more; or more commands would wait than the queue has slots; or fewer than wait now
  *    6  acknowledge: no error is active
  *    7  fill: no such row
  *    8  fill: the row is in use
  *    9  fill: the four words are ill formed or empty
  *   10  translate: MemAttr, SH or hints are ill formed or too wide
  *
- * 1, 2 and 3 are tried first, by every call.
+ * 1, 2 and 3 are tried first, by every call, then the others in this order.
  *
- * Power cuts. A run and a fill store single 64-bit words, in an order that does not depend on the allowance, and make at most
- * `allowance` of them: a call with allowance k leaves what a power cut after its k-th store leaves. The other calls store one
- * word or none. The stores are plain ones with no barrier between them: docs/BOX.md says what the memory, or the caller, has to
- * do so that they arrive in this order. After a restart, in this order:
+ * ALLOWANCES. A run and a fill store single 64-bit words, in an order that does not depend on the allowance, and make at most
+ * `allowance` of them: a call with allowance k leaves what a power cut after its k-th store leaves. A fill makes 4 stores; a run
+ * makes one for each row that it removes and each command that it consumes, and one if it raises, so never more than there are
+ * used rows and waiting commands (384 at most). An allowance of 0 makes no store: where one is due the call ends Cut, and called
+ * so again it never gets further. The other calls store one word or none.
+ *
+ * A run that ended Cut goes on when it is called again. A fill does not: it starts from its first store every time, and until
+ * its last store the row is empty. Repeated after it has finished, a fill is refused with 8 and an acknowledge with 6, a run that
+ * raised ends Held, and a doorbell, an enable or a disable stores the same word again.
+ *
+ * The stores are plain ones with no barrier between them. docs/BOX.md says what the memory, or the caller, has to do so that
+ * they arrive in this order.
+ *
+ * WALK AND FILL. No run may come between the first read of a walk of the guest's tables and the last store of its fill, cut or
+ * no cut: the run may consume the command for a change that the walk did not see, and the fill would then make the old mapping
+ * valid again. If one came, walk again.
+ *
+ * AFTER A RESTART, in this order:
  *
  *   1. Look at RD, ERR and active by tahvenno_state, and tell the guest what it was not told.
  *   2. Drop the fill that was under way, and whatever was walked before the cut.
@@ -47,12 +65,10 @@
  *
  * To 2: do not repeat the fill instead. After the run it can make a stale row valid: the command that should have removed the
  * row was consumed while the row was still empty. Before the run it can bring back a row that a command has removed: the fill
- * had finished, and a run removed its row and was cut. (A fill is also called again without any cut, with growing allowances,
- * where a barrier is wanted after each store: it starts from its first store every time, and until its last store the row is
- * empty.)
+ * had finished, and a run removed its row and was cut.
  *
- * Walk and fill. No run may come between the first read of a walk and the last store of its fill, cut or no cut: the run may
- * consume the command for a change that the walk did not see, and the fill would then make the old mapping valid again.
+ * NOT PROVED: the order in which C passes the parameters. A contract names them and would be the same in any order. What pins
+ * the order is compare/, which declares the calls as they stand here and compares what they do with a second implementation.
  */
 #ifndef TAHVENNO_H
 #define TAHVENNO_H
@@ -63,6 +79,114 @@
 #ifdef __cplusplus
 extern "C" {
 #endif
+
+/* Sizes: of the kept memory in words, of the queue in bytes. A fill makes as many stores as a row has words. */
+#define TAHVENNO_MAX_ROWS 128
+#define TAHVENNO_ROW_WORDS 4
+#define TAHVENNO_WORDS(rows) (1 + TAHVENNO_ROW_WORDS * (rows))
+#define TAHVENNO_MAX_LOG2SIZE 8
+#define TAHVENNO_SLOT_BYTES 16
+#define TAHVENNO_QUEUE_BYTES(log2size) ((size_t)TAHVENNO_SLOT_BYTES << (log2size))
+#define TAHVENNO_ANSWER_WORDS 8
+
+/* Bits high:low of a word; a number put there, without what is too wide; the number that is there. */
+#define TAHVENNO_BITS(high, low) ((UINT64_MAX >> (63 - (high))) & (UINT64_MAX << (low)))
+#define TAHVENNO_LOWEST(bits) ((bits) & (~(bits) + 1))
+#define TAHVENNO_PUT(bits, n) (((uint64_t)(n) * TAHVENNO_LOWEST(bits)) & (bits))
+#define TAHVENNO_GET(bits, w) (((uint64_t)(w) & (bits)) / TAHVENNO_LOWEST(bits))
+
+/*
+ * The control word, kept[0]. RD is the index of the first command that waits, WR the one behind the last. An index has
+ * LOG2SIZE + 1 bits: the low LOG2SIZE are the slot, the one above them is the wrap bit, which changes whenever the index passes
+ * the last slot, as in SMMU_CMDQ_PROD and SMMU_CMDQ_CONS. RD equal to WR is an empty queue; the same slot with the other wrap
+ * bit is a full one.
+ *
+ * Well formed: LOG2SIZE at most 8; both indexes below 2^(LOG2SIZE + 1); WR less RD, modulo that, at most 2^LOG2SIZE; ERR 0 or 1
+ * (CERROR_ILL); ERR 1 while the error is active, which it is if GERROR differs from GERRORN; every other bit 0.
+ *
+ * An empty kept memory: first 0 in word 0 of every row (their other words are free), then in the control word
+ * TAHVENNO_PUT(TAHVENNO_LOG2SIZE, n), with TAHVENNO_CMDQEN if the queue is enabled. In this order a cut never leaves an old row
+ * without the commands that wait for it. Between calls the caller may also empty a single row, by one 64-bit store of 0 to its
+ * word 0.
+ */
+#define TAHVENNO_RD TAHVENNO_BITS(19, 0)
+#define TAHVENNO_WR TAHVENNO_BITS(39, 20)
+#define TAHVENNO_ERR TAHVENNO_BITS(46, 40)
+#define TAHVENNO_GERROR TAHVENNO_BITS(47, 47)
+#define TAHVENNO_GERRORN TAHVENNO_BITS(48, 48)
+#define TAHVENNO_CMDQEN TAHVENNO_BITS(49, 49)
+#define TAHVENNO_LOG2SIZE TAHVENNO_BITS(54, 50)
+
+/*
+ * A row. It is empty if word 0 is 0, whatever the other words are. Else valid is 1, and every part not named here is 0:
+ *
+ *   STE, last-level      VMID, MTCFG, STE_MEMATTR, SHCFG, ALLOCCFG, INSTCFG, PRIVCFG; STREAM, CONFIG (0, 4, 5, 6 or 7)
+ *   STE, not last-level  SPAN (6, 8 or 10); STREAM, a multiple of 2^SPAN: a block of that many streams
+ *   CD, last-level       ASID; STREAM, SUBSTREAM
+ *   CD, not last-level   STREAM
+ *   stage 1              VMID, ASID, GLOBAL, SPAN (12 to 48); word 2, the input address, below 2^52 and a multiple of 2^SPAN;
+ *                        if last-level also word 3, the output address, by the same rule, and MEMATTR, SH, HINTS
+ *   stage 2              as stage 1, without ASID, GLOBAL and HINTS
+ *
+ * Only last-level rows answer a transaction, and of several the lowest. The payload of an STE row overrides what comes in:
+ * MTCFG 1 takes STE_MEMATTR. SHCFG 0 NSH, 1 as it comes, 2 OSH, 3 ISH. ALLOCCFG, if its bit 3 is set, puts its bits 2, 1, 0 as
+ * RA, WA, TR into both halves that are cacheable. INSTCFG 2 data, 3 instruction, else as it comes; a write is always data.
+ * PRIVCFG 2 unprivileged, 3 privileged, else as it comes.
+ */
+/* word 0 */
+#define TAHVENNO_VALID TAHVENNO_BITS(0, 0)
+#define TAHVENNO_KIND TAHVENNO_BITS(2, 1)
+#define TAHVENNO_LAST_LEVEL TAHVENNO_BITS(3, 3)
+#define TAHVENNO_GLOBAL TAHVENNO_BITS(4, 4)
+#define TAHVENNO_SPAN TAHVENNO_BITS(10, 5)
+#define TAHVENNO_VMID TAHVENNO_BITS(31, 16)
+#define TAHVENNO_ASID TAHVENNO_BITS(47, 32)
+/* word 0, the payload of a last-level STE row */
+#define TAHVENNO_MTCFG TAHVENNO_BITS(48, 48)
+#define TAHVENNO_STE_MEMATTR TAHVENNO_BITS(52, 49)
+#define TAHVENNO_SHCFG TAHVENNO_BITS(54, 53)
+#define TAHVENNO_ALLOCCFG TAHVENNO_BITS(58, 55)
+#define TAHVENNO_INSTCFG TAHVENNO_BITS(60, 59)
+#define TAHVENNO_PRIVCFG TAHVENNO_BITS(62, 61)
+/* word 0, the payload of a last-level stage 1 or stage 2 row */
+#define TAHVENNO_MEMATTR TAHVENNO_BITS(51, 48)
+#define TAHVENNO_SH TAHVENNO_BITS(53, 52)
+#define TAHVENNO_HINTS TAHVENNO_BITS(59, 54)
+/* word 1 */
+#define TAHVENNO_STREAM TAHVENNO_BITS(31, 0)
+#define TAHVENNO_SUBSTREAM TAHVENNO_BITS(51, 32)
+#define TAHVENNO_CONFIG TAHVENNO_BITS(54, 52)
+
+/* Kinds of rows, and word 0 of a row of a kind with nothing more in it. */
+enum { TAHVENNO_STE, TAHVENNO_CD, TAHVENNO_STAGE1, TAHVENNO_STAGE2 };
+#define TAHVENNO_ROW(kind) (TAHVENNO_VALID | TAHVENNO_PUT(TAHVENNO_KIND, kind))
+
+/* What Config makes of a transaction. */
+enum {
+    TAHVENNO_CONFIG_ABORT = 0,
+    TAHVENNO_CONFIG_BYPASS = 4,
+    TAHVENNO_CONFIG_STAGE1 = 5,
+    TAHVENNO_CONFIG_STAGE2 = 6,
+    TAHVENNO_CONFIG_BOTH = 7
+};
+
+/* MemAttr, 4 bits: a Device type, or Normal by its outer and its inner half. 4, 8 and 12 are ill formed. */
+enum { TAHVENNO_DEVICE_NGNRNE, TAHVENNO_DEVICE_NGNRE, TAHVENNO_DEVICE_NGRE, TAHVENNO_DEVICE_GRE };
+enum { TAHVENNO_NC = 1, TAHVENNO_WT = 2, TAHVENNO_WB = 3 };
+#define TAHVENNO_NORMAL(outer, inner) (4 * (outer) + (inner))
+
+/* SH, 2 bits; 1 is ill formed. */
+enum { TAHVENNO_NSH = 0, TAHVENNO_OSH = 2, TAHVENNO_ISH = 3 };
+
+/* Hints, 6 bits. Those of a Device type and of a half that is NC are 0. */
+enum {
+    TAHVENNO_INNER_RA = 1,
+    TAHVENNO_INNER_WA = 2,
+    TAHVENNO_INNER_TR = 4,
+    TAHVENNO_OUTER_RA = 8,
+    TAHVENNO_OUTER_WA = 16,
+    TAHVENNO_OUTER_TR = 32
+};
 
 /* Bits of `features`: what the emulated unit has. The others are not looked at. */
 #define TAHVENNO_S1P UINT64_C(1)
@@ -96,14 +220,14 @@ enum {
 uint64_t tahvenno_run(uint64_t *kept, size_t words, const uint8_t *queue, size_t bytes, uint64_t features,
                       uint64_t allowance, uint64_t answer[8]);
 
-/* Fills an empty row with four words. answer: the end, stores made. */
+/* Fills an empty row, counted from 0, with four words. answer: the end, stores made. */
 uint64_t tahvenno_fill(uint64_t *kept, size_t words, uint64_t row, uint64_t w0, uint64_t w1, uint64_t w2, uint64_t w3,
                        uint64_t allowance, uint64_t answer[8]);
 
-/* The guest wrote WR. */
+/* The guest wrote WR: `wr` is the whole index, with its wrap bit. */
 uint64_t tahvenno_doorbell(uint64_t *kept, size_t words, uint64_t wr, uint64_t answer[8]);
 
-/* The guest acknowledged the error: GERRORN becomes equal to GERROR. */
+/* The guest acknowledged the error: GERRORN becomes equal to GERROR. ERR stays. */
 uint64_t tahvenno_acknowledge(uint64_t *kept, size_t words, uint64_t answer[8]);
 
 /* Enables the queue if `on` is not 0, else disables it. */
