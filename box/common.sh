@@ -67,3 +67,16 @@ kit_folder() {
         dirname "$(dirname "$script")"
     fi
 }
+
+# Runs a proved program of target/bin. They are for x86-64; on another machine the kit's emulator runs them over the kit's C library.
+run_program() { # name, arguments
+    local tools program=target/bin/$1
+    shift
+    [ -x "$program" ] || stop "$program is not built"
+    if [ "$(uname -m)" = x86_64 ]; then
+        "$program" "$@"
+    else
+        tools=$(kit_folder)/on/$(uname -m)/toolchain
+        "$tools/bin/qemu-x86_64" "$tools/lib/ld-linux-x86-64.so.2" --library-path "$tools/lib" "$program" "$@"
+    fi
+}
