@@ -1,4 +1,4 @@
-"""cited.py FILE..: every citation in these Markdown files is there.
+"""cited.py FILE..: every citation in these Markdown files is there, and every theorem of the crate promises is cited.
 
 A citation is whatever stands between backquotes. It is a path below crates/ or, failing that, below the repository,
 and may name something in that file after a colon:
@@ -42,20 +42,43 @@ def missing(root, document):
     return found
 
 
+def theorems(text):
+    """The public theorems of a proof file: what it declares so and defines, which a record's fields are not."""
+    names = re.findall(r'^ *pub (\S+)(?: \{[^}]*\})? :', text, re.M)
+    return [name for name in names if re.search(r'^ *%s( [^:]*)? =' % re.escape(name), text, re.M)]
+
+
+def uncited(root, folder, documents):
+    """The theorems of the proof files of a folder that no document cites."""
+    found = []
+    for file in sorted(os.listdir(os.path.join(root, 'crates', folder))):
+        if not file.endswith('.antt'):
+            continue
+        with open(os.path.join(root, 'crates', folder, file), encoding='utf-8') as opened:
+            names = theorems(opened.read())
+        found += ['%s/%s:%s' % (folder, file, name) for name in names if '`%s/%s:%s`' % (folder, file, name) not in documents]
+    return found
+
+
 def main(files):
     wrong = 0
     count = 0
+    documents = ''
     for file in files:
         with open(file, encoding='utf-8') as opened:
             document = opened.read()
+        documents += document
         count += len(re.findall(r'`[^`]*`', document))
         for number, citation, why in missing('.', document):
             print('%s:%d: %s: %s' % (file, number, citation, why))
             wrong += 1
+    for theorem in uncited('.', 'promises/proofs', documents):
+        print('%s: cited nowhere' % theorem)
+        wrong += 1
     if count == 0:
         print('no citation at all')
         return 1
-    print('cited: %d citations, %d missing' % (count, wrong))
+    print('cited: %d citations, %d missing or left out' % (count, wrong))
     return 1 if wrong else 0
 
 

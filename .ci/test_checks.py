@@ -33,6 +33,10 @@ def citations():
         expect('citations that are there pass', cited.missing(root, there) == [])
         for absent in ['a/specs/A.antt:par', 'a/specs/A.antt:w', 'a/src/lib.rt:limit', 'a/stdout:length', 'a/specs/B.antt', 'nothing', 'a/specs']:
             expect('missing: ' + absent, len(cited.missing(root, 'x\n`%s` y' % absent)) == 1)
+        law = 'module _ (m : ℕ) where\n  pub holds : m ≡ m\n  holds = refl\n\npub record R : Type 0 where\n  pub field : ℕ\n'
+        write(root, 'crates/a/proofs/A.antt', law + '\npub also : (n : ℕ) → n ≡ n\nalso n = refl\n')
+        expect('a theorem left out', cited.uncited(root, 'a/proofs', '`a/proofs/A.antt:holds`') == ['a/proofs/A.antt:also'])
+        expect('none left out', cited.uncited(root, 'a/proofs', '`a/proofs/A.antt:holds`, `a/proofs/A.antt:also`') == [])
 
 
 def logs():
