@@ -6,6 +6,7 @@ use mathlib.Core.List.{List}
 use Prim.Native.Nat.{ℕ, _<_}
 use native.Mathlib.Omega.{arith}
 use lib.ListN.{length}
+use Rattle.words.specs.Outcomes.{with}
 use Rattle.control.specs.Control.{active}
 use Rattle.control_stores.specs.Stores.{mayRing, rung, acknowledged, switched}
 use Rattle.image.specs.declared.Refusal.{Refusal}
@@ -13,14 +14,11 @@ use Rattle.image.specs.declared.Checked.the-variants.{Accepted, Refused}
 use Rattle.image.specs.Image.{controlOf, check}
 use Rattle.image.proofs.Checks.{says}
 use Rattle.control_calls.specs.declared.DoorbellRefusal.the-variants.{Image as ByImage, BadIndex}
-use Rattle.control_calls.specs.declared.DoorbellAnswer.{DoorbellAnswer}
 use Rattle.control_calls.specs.declared.DoorbellAnswer.the-variants.{Refused as NotRung, Rung}
 use Rattle.control_calls.specs.declared.AcknowledgeRefusal.the-variants.{Image as OfImage, NoError}
-use Rattle.control_calls.specs.declared.AcknowledgeAnswer.{AcknowledgeAnswer}
 use Rattle.control_calls.specs.declared.AcknowledgeAnswer.the-variants.{Refused as NotAcknowledged, Acknowledged}
-use Rattle.control_calls.specs.declared.EnableAnswer.{EnableAnswer}
 use Rattle.control_calls.specs.declared.EnableAnswer.the-variants.{Refused as NotSwitched, Switched}
-use Rattle.control_calls.specs.Calls.{with, stored, doorbell, acknowledge, enable, Rings, Acknowledges, Enables}
+use Rattle.control_calls.specs.Calls.{stored, doorbell, acknowledge, enable}
 
 module _ (m : List ℕ) where
   -- an accepted image has a control word
@@ -60,13 +58,3 @@ module _ (m : List ℕ) where
   pub enable-stores : (n : ℕ) (on : Bool) → check m ≡ Accepted n → enable m on ≡ with Switched (stored m (switched (controlOf m) on))
   unfolding enable
   enable-stores n on e = rw e
-
--- a case known is the contract met
-pub rings : {m m′ : List ℕ} {v : ℕ} {r : DoorbellAnswer} → doorbell m v ≡ with r m′ → Rings m v m′ r
-rings e = record { answers = rw e; leaves = rw e }
-
-pub acknowledges : {m m′ : List ℕ} {r : AcknowledgeAnswer} → acknowledge m ≡ with r m′ → Acknowledges m m′ r
-acknowledges e = record { answers = rw e; leaves = rw e }
-
-pub enables : {m m′ : List ℕ} {on : Bool} {r : EnableAnswer} → enable m on ≡ with r m′ → Enables m on m′ r
-enables e = record { answers = rw e; leaves = rw e }

@@ -10,6 +10,7 @@ use lib.Dec.{T}
 use lib.ListN.{length}
 use lib.Seq.{getD-set-same, set-set}
 use Rattle.words.specs.Choice.{pick}
+use Rattle.words.specs.Outcomes.{Outcome, with}
 use Rattle.words.specs.Ranges.{Range, get}
 use Rattle.words.proofs.Parts.{apart}
 use Rattle.control.specs.Control as control
@@ -32,13 +33,13 @@ use Rattle.control_calls.specs.declared.AcknowledgeAnswer.{AcknowledgeAn
 use Rattle.control_calls.specs.declared.AcknowledgeAnswer.the-variants.{Refused as NotAcknowledged, Acknowledged}
 use Rattle.control_calls.specs.declared.EnableAnswer.{EnableAnswer}
 use Rattle.control_calls.specs.declared.EnableAnswer.the-variants.{Refused as NotSwitched, Switched}
-use Rattle.control_calls.specs.Calls.{Outcome, with, stored, doorbell, acknowledge, enable, Rings, Acknowledges, Enables}
+use Rattle.control_calls.specs.Calls.{stored, doorbell, acknowledge, enable}
 use Rattle.control_calls.proofs.Cases.{doorbell-image, doorbell-index, doorbell-rings, acknowledge-image, acknowledge-none, acknowledge-stores, enable-image, enable-stores}
 use Rattle.control_calls.proofs.Twice.{rung-again, may-ring-again, switched-again}
 
 -- Which way a call with outcome o goes from the memory m. Refused: nothing is stored. Or, from an accepted image on
 -- which the call's own test may passes, carried out: the control word becomes w.
-pub data Way {R A : Type 0} (m : List ℕ) (o : Outcome A) (no : R → A) (yes : A) (may : Bool) (w : ℕ) : Type 0 where
+pub data Way {R A : Type 0} (m : List ℕ) (o : Outcome (List ℕ) A) (no : R → A) (yes : A) (may : Bool) (w : ℕ) : Type 0 where
   stops : (why : R) → o ≡ with (no why) m → Way m o no yes may w
   stores : (n : ℕ) → Accepts m n → may ≡ true → o ≡ with yes (stored m w) → Way m o no yes may w
 
@@ -49,7 +50,7 @@ stored-word : (m : List ℕ) (n w : ℕ) → Accepts m n → controlOf (stored m
 stored-word m n w a = getD-set-same m 0 w 0 (has-word m n a)
 
 -- what every such call keeps
-module _ {R A : Type 0} {m : List ℕ} {o : Outcome A} {no : R → A} {yes : A} {may : Bool} {w : ℕ} where
+module _ {R A : Type 0} {m : List ℕ} {o : Outcome (List ℕ) A} {no : R → A} {yes : A} {may : Bool} {w : ℕ} where
   rows-stay : Way m o no yes may w → (j : ℕ) → rowAt (o .memory) j ≡ rowAt m j
   rows-stay (stops why e) j = rw e
   rows-stay (stores n a t e) j = rw e (row-kept m 0 w j (λ r. omega (arith, r .from)))
@@ -60,7 +61,7 @@ module _ {R A : Type 0} {m : List ℕ} {o : Outcome A} {no : R → A} {yes : A} 
 
   refusal-stores-nothing : Way m o no yes may w → ((why : R) → yes ≡ no why → ⊥) → (why : R) → o .answer ≡ no why → o .memory ≡ m
   refusal-stores-nothing (stops why′ e) other why r = rw e
-  refusal-stores-nothing (stores n a t e) other why r = absurd (other why (sym (ap (λ (q : Outcome A). q .answer) e) ∙ r))
+  refusal-stores-nothing (stores n a t e) other why r = absurd (other why (sym (ap (λ (q : Outcome (List ℕ) A). q .answer) e) ∙ r))
 
   stays-accepted : Way m o no yes may w → (may ≡ true → Formed (controlOf m) → Formed w) → (n : ℕ) → Accepts m n → Accepts (o .memory) n
   stays-accepted (stops why e) f n a = rw e a
@@ -106,9 +107,9 @@ module _ (m : List ℕ) (v : ℕ) where
   doorbell-sets r = by-way doorbell-way
     where
       by-way : DoorbellWay → control.wr (controlOf (doorbell m v .memory)) ≡ v
-      by-way (stops why e) = never (cc (ap (λ (o : Outcome DoorbellAnswer). o .answer) e))
+      by-way (stops why e) = never (cc (ap (λ (o : Outcome (List ℕ) DoorbellAnswer). o .answer) e))
       by-way (stores n a t e) =
-          rw (ap (λ (o : Outcome DoorbellAnswer). o .memory) e, stored-word m n rings a)
+          rw (ap (λ (o : Outcome (List ℕ) DoorbellAnswer). o .memory) e, stored-word m n rings a)
           (rung-sets (controlOf m) v (formed (controlOf m) (a .control-formed)) t)
 
   -- the same WR again: the same answer, and the same word stored
@@ -116,7 +117,7 @@ module _ (m : List ℕ) (v : ℕ) where
   doorbell-again = by-way doorbell-way
     where
       by-way : DoorbellWay → doorbell (doorbell m v .memory) v ≡ doorbell m v
-      by-way (stops why e) = ap (λ (o : Outcome DoorbellAnswer). doorbell (o .memory) v) e
+      by-way (stops why e) = ap (λ (o : Outcome (List ℕ) DoorbellAnswer). doorbell (o .memory) v) e
       by-way (stores n a t e) =
           let f = formed (controlOf m) (a .control-formed) in
           let m′ = stored m rings in
@@ -125,7 +126,7 @@ module _ (m : List ℕ) (v : ℕ) where
           let t′ : mayRing (controlOf m′) v ≡ true = rw s (may-ring-again (controlOf m) v f t) in
           let same : stored m′ (rung (controlOf m′) v) ≡ m′ =
           ap (λ (x : ℕ). stored m′ (rung x v)) s ∙ ap (stored m′) (rung-again (controlOf m) v) ∙ set-set m 0 rings rings in
-          ap (λ (o : Outcome DoorbellAnswer). doorbell (o .memory) v) e
+          ap (λ (o : Outcome (List ℕ) DoorbellAnswer). doorbell (o .memory) v) e
           ∙ doorbell-rings m′ n v (accepts m′ n a′) t′ ∙ ap (with Rung) same ∙ sym e
 
 module _ (m : List ℕ) where
@@ -163,18 +164,18 @@ module _ (m : List ℕ) where
   acknowledge-sets r = by-way acknowledge-way
     where
       by-way : AcknowledgeWay → control.gerrorn (controlOf (acknowledge m .memory)) ≡ control.gerror (controlOf m)
-      by-way (stops why e) = never (cc (ap (λ (o : Outcome AcknowledgeAnswer). o .answer) e))
+      by-way (stops why e) = never (cc (ap (λ (o : Outcome (List ℕ) AcknowledgeAnswer). o .answer) e))
       by-way (stores n a t e) =
-          rw (ap (λ (o : Outcome AcknowledgeAnswer). o .memory) e, stored-word m n quiets a) (acknowledged-sets (controlOf m))
+          rw (ap (λ (o : Outcome (List ℕ) AcknowledgeAnswer). o .memory) e, stored-word m n quiets a) (acknowledged-sets (controlOf m))
 
   -- no error is active after it
   pub acknowledge-quiet : (n : ℕ) → Accepts m n → control.active (controlOf (acknowledge m .memory)) ≡ false
   acknowledge-quiet n a = by-test (control.active (controlOf m)) refl
     where
       by-test : (t : Bool) → control.active (controlOf m) ≡ t → control.active (controlOf (acknowledge m .memory)) ≡ false
-      by-test false t = rw (ap (λ (o : Outcome AcknowledgeAnswer). o .memory) (acknowledge-none m n (accepts m n a) t)) t
+      by-test false t = rw (ap (λ (o : Outcome (List ℕ) AcknowledgeAnswer). o .memory) (acknowledge-none m n (accepts m n a) t)) t
       by-test true t =
-          rw (ap (λ (o : Outcome AcknowledgeAnswer). o .memory) (acknowledge-stores m n (accepts m n a) t), stored-word m n quiets a)
+          rw (ap (λ (o : Outcome (List ℕ) AcknowledgeAnswer). o .memory) (acknowledge-stores m n (accepts m n a) t), stored-word m n quiets a)
           (acknowledged-quiet (controlOf m))
 
   -- so that acknowledging again is refused, and stores nothing
@@ -214,32 +215,21 @@ module _ (m : List ℕ) (on : Bool) where
   enable-sets r = by-way enable-way
     where
       by-way : EnableWay → control.cmdqen (controlOf (enable m on .memory)) ≡ pick on 1 0
-      by-way (stops why e) = never (cc (ap (λ (o : Outcome EnableAnswer). o .answer) e))
+      by-way (stops why e) = never (cc (ap (λ (o : Outcome (List ℕ) EnableAnswer). o .answer) e))
       by-way (stores n a t e) =
-          rw (ap (λ (o : Outcome EnableAnswer). o .memory) e, stored-word m n switches a) (switched-sets (controlOf m) on)
+          rw (ap (λ (o : Outcome (List ℕ) EnableAnswer). o .memory) e, stored-word m n switches a) (switched-sets (controlOf m) on)
 
   -- the same again: the same answer, and the same word stored
   pub enable-again : enable (enable m on .memory) on ≡ enable m on
   enable-again = by-way enable-way
     where
       by-way : EnableWay → enable (enable m on .memory) on ≡ enable m on
-      by-way (stops why e) = ap (λ (o : Outcome EnableAnswer). enable (o .memory) on) e
+      by-way (stops why e) = ap (λ (o : Outcome (List ℕ) EnableAnswer). enable (o .memory) on) e
       by-way (stores n a t e) =
           let m′ = stored m switches in
           let a′ = control-stored m n a switches (is-formed switches (switched-formed (controlOf m) on (formed (controlOf m) (a .control-formed)))) in
           let same : stored m′ (switched (controlOf m′) on) ≡ m′ =
           ap (λ (x : ℕ). stored m′ (switched x on)) (stored-word m n switches a)
           ∙ ap (stored m′) (switched-again (controlOf m) on) ∙ set-set m 0 switches switches in
-          ap (λ (o : Outcome EnableAnswer). enable (o .memory) on) e
+          ap (λ (o : Outcome (List ℕ) EnableAnswer). enable (o .memory) on) e
           ∙ enable-stores m′ n on (accepts m′ n a′) ∙ ap (with Switched) same ∙ sym e
-
--- each contract allows one outcome
-module _ {m m′ m″ : List ℕ} where
-  pub doorbell-pinned : {v : ℕ} {r r′ : DoorbellAnswer} → Rings m v m′ r → Rings m v m″ r′ → (r ≡ r′) × (m′ ≡ m″)
-  doorbell-pinned a b = (a .answers ∙ sym (b .answers), a .leaves ∙ sym (b .leaves))
-
-  pub acknowledge-pinned : {r r′ : AcknowledgeAnswer} → Acknowledges m m′ r → Acknowledges m m″ r′ → (r ≡ r′) × (m′ ≡ m″)
-  acknowledge-pinned a b = (a .answers ∙ sym (b .answers), a .leaves ∙ sym (b .leaves))
-
-  pub enable-pinned : {on : Bool} {r r′ : EnableAnswer} → Enables m on m′ r → Enables m on m″ r′ → (r ≡ r′) × (m′ ≡ m″)
-  enable-pinned a b = (a .answers ∙ sym (b .answers), a .leaves ∙ sym (b .leaves))

@@ -1,6 +1,7 @@
 // The calls that store only the control word: doorbell, acknowledge, enable or disable. Each makes one store, or none.
 use image::Checked;
-ghost use Rattle.control_calls.specs.Calls.{Rings, Acknowledges, Enables};
+ghost use Rattle.words.specs.Outcomes.{Gives};
+ghost use Rattle.control_calls.specs.Calls.{doorbell, acknowledge, enable};
 
 // Why a doorbell is refused: the image, or an index that WR may not become.
 pub enum DoorbellRefusal {
@@ -32,7 +33,7 @@ pub enum EnableAnswer {
 
 // WR becomes wr.
 pub fn doorbell(kept: &mut [u64], wr: u64) -> DoorbellAnswer
-    ensures { λ r. ⌜ Rings (now (kept .entry)) wr (now (kept .exit)) r ⌝ }
+    ensures { λ r. ⌜ Gives (doorbell (now (kept .entry)) wr) (now (kept .exit)) r ⌝ }
 {
     match image::check(&*kept) {
         Checked::Refused(why) => DoorbellAnswer::Refused(DoorbellRefusal::Image(why)),
@@ -49,7 +50,7 @@ pub fn doorbell(kept: &mut [u64], wr: u64) -> DoorbellAnswer
 
 // GERRORN becomes equal to GERROR; the error code stays to be read.
 pub fn acknowledge(kept: &mut [u64]) -> AcknowledgeAnswer
-    ensures { λ r. ⌜ Acknowledges (now (kept .entry)) (now (kept .exit)) r ⌝ }
+    ensures { λ r. ⌜ Gives (acknowledge (now (kept .entry))) (now (kept .exit)) r ⌝ }
 {
     match image::check(&*kept) {
         Checked::Refused(why) => AcknowledgeAnswer::Refused(AcknowledgeRefusal::Image(why)),
@@ -66,7 +67,7 @@ pub fn acknowledge(kept: &mut [u64]) -> AcknowledgeAnswer
 
 // CMDQEN becomes on.
 pub fn enable(kept: &mut [u64], on: bool) -> EnableAnswer
-    ensures { λ r. ⌜ Enables (now (kept .entry)) on (now (kept .exit)) r ⌝ }
+    ensures { λ r. ⌜ Gives (enable (now (kept .entry)) on) (now (kept .exit)) r ⌝ }
 {
     match image::check(&*kept) {
         Checked::Refused(why) => EnableAnswer::Refused(why),

@@ -8,6 +8,7 @@ use native.Mathlib.Omega.{arith}
 use lib.ListN.{length, getD}
 use borrow.Author.Tests.{eq-eqb, ne-eqb, le-leb, lt-leb}
 use Rattle.words.specs.Stores.{afterStores}
+use Rattle.words.specs.Outcomes.{Outcome, with, Gives}
 use Rattle.rows.specs.declared.Row.{Row}
 use Rattle.image.specs.declared.Refusal.{Refusal}
 use Rattle.image.specs.declared.Checked.the-variants.{Accepted, Refused}
@@ -17,11 +18,11 @@ use Rattle.fills.specs.declared.FillRefusal.the-variants.{Image, NoSuchR
 use Rattle.fills.specs.declared.Filling.{Filling}
 use Rattle.fills.specs.declared.FillAnswer.{FillAnswer}
 use Rattle.fills.specs.declared.FillAnswer.the-variants.{Done}
-use Rattle.fills.specs.Fills.{fillStores, fit, report, Outcome, refused, fill, Stores, Fills}
+use Rattle.fills.specs.Fills.{fillStores, fit, report, refused, fill, Stores}
 
 -- carried out under an allowance of k
-abbrev pub done : List ℕ → ℕ → Row → ℕ → Outcome
-done m row words k = record { answer = Done (report k); memory = afterStores k (fillStores row words) m }
+abbrev pub done : List ℕ → ℕ → Row → ℕ → Outcome (List ℕ) FillAnswer
+done m row words k = with (Done (report k)) (afterStores k (fillStores row words) m)
 
 -- the row is used by its word 0
 module _ (m : List ℕ) (row : ℕ) where
@@ -60,11 +61,7 @@ module _ (m : List ℕ) (row : ℕ) (words : Row) (k : ℕ) where
       unfolding fill
       fill-done u t = rw (e, lt-leb n row h, u, t)
 
--- a case known is the contract met
-pub meets : {m m′ : List ℕ} {row : ℕ} {words : Row} {k : ℕ} {r : FillAnswer} → fill m row words k ≡ record { answer = r; memory = m′ }
-    → Fills m row words k m′ r
-meets e = record { answers = rw e; leaves = rw e }
-
+-- what the stores ensured is the contract met
 pub meets-done : {m m′ : List ℕ} {row : ℕ} {words : Row} {k : ℕ} {r : Filling} → Stores m row words k m′ r
-    → fill m row words k ≡ done m row words k → Fills m row words k m′ (Done r)
+    → fill m row words k ≡ done m row words k → Gives (fill m row words k) m′ (Done r)
 meets-done s e = record { answers = rw e (ap Done (s .reports)); leaves = rw e (s .leaves) }

@@ -13,6 +13,7 @@ use lib.ListN.{length, getD, set}
 use lib.Seq.{getD-set-same, getD-set-other, set-set, set-comm}
 use borrow.Author.Tests.{not-true, not-false}
 use Rattle.words.specs.Stores.{afterStores}
+use Rattle.words.specs.Outcomes.{Outcome}
 use Rattle.words.proofs.Stores.{after-all, after-length}
 use Rattle.words.proofs.Truth.{left, right, and-true, less-or-not}
 use Rattle.rows.specs.declared.Row.{Row}
@@ -28,7 +29,7 @@ use Rattle.fills.specs.declared.FillRefusal.{FillRefusal}
 use Rattle.fills.specs.declared.FillRefusal.the-variants.{Image, NoSuchRow, RowInUse, Unfit}
 use Rattle.fills.specs.declared.FillAnswer.{FillAnswer}
 use Rattle.fills.specs.declared.FillAnswer.the-variants.{Refused as NotFilled, Done}
-use Rattle.fills.specs.Fills.{fillStores, fit, report, Outcome, refused, fill, Fills}
+use Rattle.fills.specs.Fills.{fillStores, fit, report, refused, fill}
 use Rattle.fills.proofs.Order.{each-place, report-cut, report-filled}
 use Rattle.fills.proofs.Cases.{done, fill-image, fill-no-row, fill-in-use, fill-unfit, fill-done}
 
@@ -117,17 +118,17 @@ module _ (m : List ℕ) (n row : ℕ) (words : Row) (c : Carried m n row words) 
   leaves k = fill m row words k .memory
 
   pub left-by : (k : ℕ) → leaves k ≡ afterStores k (fillStores row words) m
-  left-by k = ap (λ (o : Outcome). o .memory) (carried k)
+  left-by k = ap (λ (o : Outcome (List ℕ) FillAnswer). o .memory) (carried k)
 
   room : 4 * row + 5 ≤ length m
   room = omega (arith, c .image .size .words, c .below)
 
   -- enough: with four stores or more it ends Filled, with less it ends Cut, each with the stores it made
   pub enough : (k : ℕ) → 4 ≤ k → fill m row words k .answer ≡ Done (record { end = Filled; stores = 4 })
-  enough k h = ap (λ (o : Outcome). o .answer) (carried k) ∙ ap Done (report-filled k h)
+  enough k h = ap (λ (o : Outcome (List ℕ) FillAnswer). o .answer) (carried k) ∙ ap Done (report-filled k h)
 
   pub not-enough : (k : ℕ) → k < 4 → fill m row words k .answer ≡ Done (record { end = Cut; stores = k })
-  not-enough k h = ap (λ (o : Outcome). o .answer) (carried k) ∙ ap Done (report-cut k h)
+  not-enough k h = ap (λ (o : Outcome (List ℕ) FillAnswer). o .answer) (carried k) ∙ ap Done (report-cut k h)
 
   -- at every allowance the other rows and the control word stay
   pub other-rows-kept : (k j : ℕ) → (j ≡ row → ⊥) → rowAt (leaves k) j ≡ rowAt m j
@@ -229,9 +230,9 @@ module _ (m : List ℕ) (row : ℕ) (words : Row) where
   refused-leaves k why e = by-way which-way
     where
       by-way : Goes m row words → fill m row words k .memory ≡ m
-      by-way (stops why′ g) = ap (λ (o : Outcome). o .memory) (g k)
+      by-way (stops why′ g) = ap (λ (o : Outcome (List ℕ) FillAnswer). o .memory) (g k)
       by-way (stores n c) =
-          let z : _≡_ {A = ℕ} 0 1 = cc (ap (λ (o : Outcome). o .answer) (carried m n row words c k)) in
+          let z : _≡_ {A = ℕ} 0 1 = cc (ap (λ (o : Outcome (List ℕ) FillAnswer). o .answer) (carried m n row words c k)) in
           absurd (omega arith)
 
   -- an accepted image stays accepted, whatever is answered and wherever the power goes
@@ -239,12 +240,7 @@ module _ (m : List ℕ) (row : ℕ) (words : Row) where
   accepted-at-every-allowance k n a = by-way which-way
     where
       by-way : Goes m row words → Accepts (fill m row words k .memory) n
-      by-way (stops why g) = rw (ap (λ (o : Outcome). o .memory) (g k)) a
+      by-way (stops why g) = rw (ap (λ (o : Outcome (List ℕ) FillAnswer). o .memory) (g k)) a
       by-way (stores n′ c) =
           let same : n′ ≡ n = cc (accepts m n a, accepts m n′ (c .image)) in
           rw (← same) (stays-accepted m n′ row words c k)
-
--- the contract allows one outcome
-pub fill-pinned : {m m′ m″ : List ℕ} {row : ℕ} {words : Row} {k : ℕ} {r r′ : FillAnswer} → Fills m row words k m′ r → Fills m row words k m″ r′
-    → (r ≡ r′) × (m′ ≡ m″)
-fill-pinned a b = (a .answers ∙ sym (b .answers), a .leaves ∙ sym (b .leaves))

@@ -7,12 +7,11 @@ use Prim.Native.Nat.{ℕ, _+_, _*_}
 use lib.Dec.{leb, ltb}
 use lib.ListN.{getD}
 use Rattle.words.specs.Choice.{pick}
+use Rattle.words.specs.Outcomes.{Outcome, with}
 use Rattle.words.specs.Stores.{Store, afterStores}
 use Rattle.rows.specs.declared.Row.{Row}
 use Rattle.rows.specs.Rows.{isEmpty}
 use Rattle.rows.specs.WellFormed as rows
-use Rattle.image.specs.declared.Checked.{Checked}
-use Rattle.image.specs.declared.Checked.the-variants.{Accepted, Refused}
 use Rattle.image.specs.Image as image
 use Rattle.fills.specs.declared.FillEnd.{FillEnd}
 use Rattle.fills.specs.declared.FillEnd.the-variants.{Filled, Cut}
@@ -54,31 +53,19 @@ fit words = rows.wellFormed words && not (isEmpty words)
 unfoldable pub report : ℕ → Filling
 report k = pick (ltb k 4) (record { end = Cut; stores = k }) (record { end = Filled; stores = 4 })
 
--- what a fill answers, and the memory that it leaves
-pub record Outcome : Type 0 where
-  pub answer : FillAnswer
-  pub memory : List ℕ
+abbrev pub refused : FillRefusal → List ℕ → Outcome (List ℕ) FillAnswer
+refused why m = with (NotFilled why) m
 
-abbrev pub refused : FillRefusal → List ℕ → Outcome
-refused why m = record { answer = NotFilled why; memory = m }
-
--- into an image that was checked: its own refusal, or 7, 8 and 9 in their order, and then the stores
-abbrev pub fillChecked : Checked → List ℕ → ℕ → Row → ℕ → Outcome
-fillChecked (Refused why) m row words k = refused (Image why) m
-fillChecked (Accepted n) m row words k =
-    pick (leb n row) (refused NoSuchRow m)
+-- 7, 8 and 9 in their order, and then the stores
+unfoldable pub fill : List ℕ → ℕ → Row → ℕ → Outcome (List ℕ) FillAnswer
+fill m row words k =
+    image.checked (image.check m) (λ why. refused (Image why) m)
+    (λ n. pick (leb n row) (refused NoSuchRow m)
     (pick (image.isUsed m row) (refused RowInUse m)
     (pick (not (fit words)) (refused Unfit m)
-    (record { answer = Done (report k); memory = afterStores k (fillStores row words) m })))
+    (with (Done (report k)) (afterStores k (fillStores row words) m)))))
 
-unfoldable pub fill : List ℕ → ℕ → Row → ℕ → Outcome
-fill m row words k = fillChecked (image.check m) m row words k
-
--- what the stores ensure, and what the call does, of the memory m before and m′ after and of the answer r
+-- what the stores ensure, of the memory m before and m′ after and of what is reported
 pub record Stores (m : List ℕ) (row : ℕ) (words : Row) (k : ℕ) (m′ : List ℕ) (r : Filling) : Type 0 where
   pub reports : r ≡ report k
   pub leaves : m′ ≡ afterStores k (fillStores row words) m
-
-pub record Fills (m : List ℕ) (row : ℕ) (words : Row) (k : ℕ) (m′ : List ℕ) (r : FillAnswer) : Type 0 where
-  pub answers : r ≡ fill m row words k .answer
-  pub leaves : m′ ≡ fill m row words k .memory

@@ -4,7 +4,8 @@ use rows::Row;
 ghost use mathlib.Core.Path.{_≡_};
 ghost use Prim.Native.Nat.{_+_, _*_, _≤_, _<_};
 ghost use lib.ListN.{length, set};
-ghost use Rattle.fills.specs.Fills.{storeAt, fit, Stores, Fills};
+ghost use Rattle.words.specs.Outcomes.{Gives};
+ghost use Rattle.fills.specs.Fills.{storeAt, fit, fill, Stores};
 
 // How a fill ends.
 pub enum FillEnd {
@@ -86,7 +87,7 @@ fn steps(kept: &mut [u64], row: usize, words: Row, allowance: u64) -> Filling
 
 // Fills an empty row of an accepted image with fit words.
 pub fn fill(kept: &mut [u64], row: usize, words: Row, allowance: u64) -> FillAnswer
-    ensures { λ r. ⌜ Fills (now (kept .entry)) row words allowance (now (kept .exit)) r ⌝ }
+    ensures { λ r. ⌜ Gives (fill (now (kept .entry)) row words allowance) (now (kept .exit)) r ⌝ }
 {
     match image::check(&*kept) {
         Checked::Refused(why) => FillAnswer::Refused(FillRefusal::Image(why)),

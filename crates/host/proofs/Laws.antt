@@ -3,19 +3,20 @@
 use mathlib.Core.Path.{_≡_, sym, _∙_}
 use mathlib.Core.List.{List}
 use Prim.Native.Nat.{ℕ}
+use Rattle.words.specs.Outcomes.{Outcome, with}
 use Rattle.replies.specs.declared.Reply.{Reply}
-use Rattle.host.specs.Told.{Told, Effect, Leaves}
+use Rattle.host.specs.Told.{Told, Leaves}
 
 module _ {answer′ : List ℕ} {r : ℕ} {reply reply′ : Reply} where
   pub tells : Told reply answer′ r → reply ≡ reply′ → Told reply′ answer′ r
   tells t e = rw (← e) t
 
-  pub leaves : {m m′ : List ℕ} → Told reply answer′ r → reply ≡ reply′ → m′ ≡ m → Leaves (record { reply = reply′; memory = m }) m′ answer′ r
+  pub leaves : {m m′ : List ℕ} → Told reply answer′ r → reply ≡ reply′ → m′ ≡ m → Leaves (with reply′ m) m′ answer′ r
   leaves t e k = record { told = tells t e; kept = k }
 
 -- two outcomes that a contract allows are equal
 pub told-pinned : {reply : Reply} {a a′ : List ℕ} {r r′ : ℕ} → Told reply a r → Told reply a′ r′ → (r ≡ r′) × (a ≡ a′)
 told-pinned t t′ = (t .number ∙ sym (t′ .number), t .words ∙ sym (t′ .words))
 
-pub pinned : {e : Effect} {m m′ a a′ : List ℕ} {r r′ : ℕ} → Leaves e m a r → Leaves e m′ a′ r′ → ((r ≡ r′) × (a ≡ a′)) × (m ≡ m′)
+pub pinned : {o : Outcome (List ℕ) Reply} {m m′ a a′ : List ℕ} {r r′ : ℕ} → Leaves o m a r → Leaves o m′ a′ r′ → ((r ≡ r′) × (a ≡ a′)) × (m ≡ m′)
 pinned l l′ = (told-pinned (l .told) (l′ .told), l .kept ∙ sym (l′ .kept))

@@ -4,6 +4,7 @@ use mathlib.Core.Bool.{not}
 use mathlib.Core.List.{List}
 use Prim.Native.Nat.{ℕ}
 use lib.Dec.{eqb}
+use Rattle.words.specs.Outcomes.{Outcome}
 use Rattle.rows.specs.declared.Row.{Row}
 use Rattle.runs.specs.Call as runs
 use Rattle.fills.specs.Fills as fills
@@ -14,33 +15,23 @@ use Rattle.states.specs.States as states
 use Rattle.replies.specs.declared.Reply.{Reply}
 use Rattle.replies.specs.Asked.{featuresOf}
 use Rattle.replies.specs.Replies.{runReply, fillReply, doorbellReply, acknowledgeReply, enableReply, translateReply, stateReply}
-use Rattle.host.specs.Told.{Effect}
+use Rattle.host.specs.Told.{telling}
 
-abbrev pub run : ℕ → ℕ → List ℕ → List ℕ → Effect
-run features allowance queue m =
-    let o = runs.call (featuresOf features) queue allowance m in
-    record { reply = runReply (o .answer); memory = o .memory }
+abbrev pub run : ℕ → ℕ → List ℕ → List ℕ → Outcome (List ℕ) Reply
+run features allowance queue m = telling runReply (runs.call (featuresOf features) queue allowance m)
 
-abbrev pub fill : ℕ → Row → ℕ → List ℕ → Effect
-fill row words allowance m =
-    let o = fills.fill m row words allowance in
-    record { reply = fillReply (o .answer); memory = o .memory }
+abbrev pub fill : ℕ → Row → ℕ → List ℕ → Outcome (List ℕ) Reply
+fill row words allowance m = telling fillReply (fills.fill m row words allowance)
 
-abbrev pub doorbell : ℕ → List ℕ → Effect
-doorbell wr m =
-    let o = control-calls.doorbell m wr in
-    record { reply = doorbellReply (o .answer); memory = o .memory }
+abbrev pub doorbell : ℕ → List ℕ → Outcome (List ℕ) Reply
+doorbell wr m = telling doorbellReply (control-calls.doorbell m wr)
 
-abbrev pub acknowledge : List ℕ → Effect
-acknowledge m =
-    let o = control-calls.acknowledge m in
-    record { reply = acknowledgeReply (o .answer); memory = o .memory }
+abbrev pub acknowledge : List ℕ → Outcome (List ℕ) Reply
+acknowledge m = telling acknowledgeReply (control-calls.acknowledge m)
 
 -- on, if the word is not 0
-abbrev pub enable : ℕ → List ℕ → Effect
-enable on m =
-    let o = control-calls.enable m (not (eqb on 0)) in
-    record { reply = enableReply (o .answer); memory = o .memory }
+abbrev pub enable : ℕ → List ℕ → Outcome (List ℕ) Reply
+enable on m = telling enableReply (control-calls.enable m (not (eqb on 0)))
 
 -- these two only read
 abbrev pub translate : Transaction → List ℕ → Reply

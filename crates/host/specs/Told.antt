@@ -3,6 +3,7 @@
 use mathlib.Core.Path.{_≡_}
 use mathlib.Core.List.{List}
 use Prim.Native.Nat.{ℕ}
+use Rattle.words.specs.Outcomes.{Outcome, with}
 use Rattle.replies.specs.declared.Reply.{Reply}
 
 -- the number returned and the answer's words are the reply's
@@ -10,11 +11,11 @@ pub record Told (reply : Reply) (answer′ : List ℕ) (r : ℕ) : Type 0 where
   pub number : r ≡ reply .code
   pub words : answer′ ≡ reply .words
 
--- what a call tells, and the kept memory that it leaves
-pub record Effect : Type 0 where
-  pub reply : Reply
-  pub memory : List ℕ
+-- an outcome, told by a reply
+abbrev pub telling : {M A : Type 0} → (A → Reply) → Outcome M A → Outcome M Reply
+telling reply o = with (reply (o .answer)) (o .memory)
 
-pub record Leaves (e : Effect) (m′ answer′ : List ℕ) (r : ℕ) : Type 0 where
-  pub told : Told (e .reply) answer′ r
-  pub kept : m′ ≡ e .memory
+-- what a call tells, and the kept memory that it leaves
+pub record Leaves (o : Outcome (List ℕ) Reply) (m′ answer′ : List ℕ) (r : ℕ) : Type 0 where
+  pub told : Told (o .answer) answer′ r
+  pub kept : m′ ≡ o .memory

@@ -56,6 +56,11 @@ check m =
     (pick (not (control.wellFormed (controlOf m))) (Refused BadControl)
     (byRows (rowsIn m) (lowest (isBad m) (rowsIn m) 0)))
 
+-- refusals 1, 2 and 3 come first in every call: a refused image is answered so, an accepted one of n rows goes on
+abbrev pub checked : {A : Type 0} → Checked → (Refusal → A) → (ℕ → A) → A
+checked (Refused why) refused next = refused why
+checked (Accepted n) refused next = next n
+
 -- the paper's number of each refusal
 abbrev pub number : Refusal → ℕ
 number BadLength = 1

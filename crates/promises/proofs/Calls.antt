@@ -9,6 +9,7 @@ use native.Mathlib.Omega.{arith}
 use lib.Dec.{eqb}
 use lib.ListN.{length}
 use lib.Seq.{getD-set-same}
+use Rattle.words.specs.Outcomes.{Outcome}
 use Rattle.control.specs.Control as control
 use Rattle.control_stores.specs.Stores as control-stores
 use Rattle.control_stores.proofs.AfterStores.{consumed-keeps, raised-keeps}
@@ -26,7 +27,7 @@ use Rattle.runs.specs.declared.RunAnswer.{RunAnswer}
 use Rattle.runs.specs.declared.RunAnswer.the-variants.{Refused, Done}
 use Rattle.runs.specs.declared.End.the-variants.{Cut}
 use Rattle.runs.specs.Running.{Out, stores, dueIn, run}
-use Rattle.runs.specs.Call.{queueGood, Outcome, refused, done, call}
+use Rattle.runs.specs.Call.{queueGood, refused, done, call}
 use Rattle.promises.specs.Cuts.{again, AllCut, none as all-none, one as all-one}
 use Rattle.promises.specs.Calls.{_and_, calls, EndsCut, CallsCut, none, one, CarriedOut}
 use Rattle.promises.proofs.Cases.{Case, removes, consumes, raises, is-due}
@@ -102,13 +103,13 @@ module _ (f : Features) (queue : List ℕ) where
   never-refused a k ks m c = by-way (which-way m)
     where
       by-way : Goes m → CarriedOut (calls f queue ks k (call f queue a m .memory) .answer)
-      by-way (stops why e) = let z : _≡_ {A = ℕ} 0 1 = cc (ap (λ (o : Outcome). o .answer) (e a), c .is-done) in absurd (omega arith)
+      by-way (stops why e) = let z : _≡_ {A = ℕ} 0 1 = cc (ap (λ (o : Outcome (List ℕ) RunAnswer). o .answer) (e a), c .is-done) in absurd (omega arith)
       by-way (carried n accepted q) =
           let m′ = run f queue a m .memory in
           rw (carries n a m accepted q)
           (record {
             ran = again (dueIn f queue) ks k m′ .ran;
-            is-done = ap (λ (o : Outcome). o .answer) (calls-are n ks k m′ (run-accepted f queue n a m accepted) (still-good n a m accepted q));
+            is-done = ap (λ (o : Outcome (List ℕ) RunAnswer). o .answer) (calls-are n ks k m′ (run-accepted f queue n a m accepted) (still-good n a m accepted q));
           })
 
   -- any number of cuts at any allowances, then a call that is not cut: answer and memory are those of a call that never was

@@ -6,13 +6,14 @@ use mathlib.Core.Logic.{_⊎_, inl, inr, ⊎-elim}
 use Prim.Native.Nat.{ℕ, _≤_, _<_}
 use native.Mathlib.Omega.{arith}
 use Rattle.words.specs.Stores.{afterStores}
+use Rattle.words.specs.Outcomes.{with}
 use Rattle.words.proofs.Stores.{after-all}
 use Rattle.words.proofs.Truth.{less-or-not}
 use Rattle.rows.specs.declared.Row.{Row}
 use Rattle.fills.specs.declared.FillEnd.the-variants.{Filled, Cut}
 use Rattle.fills.specs.declared.FillAnswer.{FillAnswer}
 use Rattle.fills.specs.declared.FillAnswer.the-variants.{Done}
-use Rattle.fills.specs.Fills.{Outcome, fillStores, fill}
+use Rattle.fills.specs.Fills.{fillStores, fill}
 use Rattle.fills.proofs.Laws.{Carried, carried, left-by, enough, not-enough, still-carried, fill-again, Goes, stops, stores, which-way}
 use Rattle.promises.specs.Filling.{EndsCut, refilled, FillsCut, none, one}
 
@@ -38,7 +39,7 @@ module _ (row : ℕ) (words : Row) where
   uncut-same : (m : List ℕ) (n k j : ℕ) → Carried m n row words → 4 ≤ k → 4 ≤ j → fill m row words k ≡ fill m row words j
   uncut-same m n k j c h l = whole k h ∙ sym (whole j l)
     where
-      whole : (a : ℕ) → 4 ≤ a → fill m row words a ≡ record { answer = Done (record { end = Filled; stores = 4 }); memory = afterStores 4 (fillStores row words) m }
+      whole : (a : ℕ) → 4 ≤ a → fill m row words a ≡ with (Done (record { end = Filled; stores = 4 })) (afterStores 4 (fillStores row words) m)
       whole a b =
           let answer = enough m n row words c a b in
           let memory = left-by m n row words c a ∙ after-all a (fillStores row words) m b in

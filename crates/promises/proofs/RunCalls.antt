@@ -1,12 +1,13 @@
 -- The call of a run: its outcome is pinned, it keeps memory accepted, and what repeating it does.
 -- Assumes nothing.
 use mathlib.Core.Path.{_≡_, refl, sym, ap, _∙_}
-use mathlib.Core.Bool.{Bool, true, false}
+use mathlib.Core.Bool.{Bool, true, false, not}
 use mathlib.Core.List.{List}
 use Prim.Native.Nat.{ℕ, zero, suc, _<_}
 use native.Mathlib.Omega.{arith}
 use lib.ListN.{length, set}
 use lib.Seq.{getD-set-same}
+use Rattle.words.specs.Choice.{pick}
 use Rattle.control.specs.Control as control
 use Rattle.control.specs.declared.Rest.{Rest}
 use Rattle.control.proofs.Openness.{open-enabled, open-quiet}
@@ -20,19 +21,14 @@ use Rattle.image.specs.Image.{check, controlOf}
 use Rattle.image.proofs.Checks.{Accepts, accepts}
 use Rattle.steps.specs.Due.{What, Remove, Consume, Raise}
 use Rattle.runs.specs.declared.End.the-variants.{Held, Raised}
-use Rattle.runs.specs.declared.RunAnswer.{RunAnswer}
+use Rattle.runs.specs.declared.RunRefusal.the-variants.{BadQueue}
 use Rattle.runs.specs.Running.{Out, Next, rests, stores, rested, last, next, runBy, dueIn, run, endOf}
-use Rattle.runs.specs.Call.{queueGood, byCheck, call, Calls}
+use Rattle.runs.specs.Call.{queueGood, refused, done, call}
 use Rattle.promises.specs.Ends.{IsRaised}
 use Rattle.promises.proofs.Accepted.{run-accepted, store-accepted}
 use Rattle.promises.proofs.Cases.{Case, removes, consumes, raises, is-due}
 use Rattle.promises.proofs.Resume.{rest-unraised}
 use Rattle.promises.proofs.IllegalCommands.{raised-slot, error-holds}
-
--- two outcomes that the contract allows for one input are equal
-module _ {f : Features} {queue : List ℕ} {k : ℕ} {m m₁ m₂ : List ℕ} {r₁ r₂ : RunAnswer} where
-  pub run-pinned : Calls f queue k m m₁ r₁ → Calls f queue k m m₂ r₂ → (r₁ ≡ r₂) × (m₁ ≡ m₂)
-  run-pinned a b = (a .answers ∙ sym (b .answers), a .leaves ∙ sym (b .leaves))
 
 -- an unaccepted image is left as it is
 pub refused-leaves : (f : Features) (queue : List ℕ) (k : ℕ) (m : List ℕ) (c : Checked) → check m ≡ c → ((n : ℕ) → c ≡ Accepted n → ⊥) → call f queue k m .memory ≡ m
@@ -41,9 +37,9 @@ refused-leaves f queue k m (NotAccepted why) e never = rw e
 refused-leaves f queue k m (Accepted n) e never = absurd (never n refl)
 
 module _ (f : Features) (queue : List ℕ) (n : ℕ) where
-  by-queue : (k : ℕ) (m : List ℕ) (b : Bool) → queueGood queue m ≡ b → Accepts m n → Accepts (byCheck (Accepted n) f queue k m .memory) n
-  by-queue k m true e a = rw e (run-accepted f queue n k m a)
-  by-queue k m false e a = rw e a
+  by-queue : (k : ℕ) (m : List ℕ) (b : Bool) → queueGood queue m ≡ b → Accepts m n → Accepts (pick (not b) (refused BadQueue m) (done (run f queue k m)) .memory) n
+  by-queue k m true e a = run-accepted f queue n k m a
+  by-queue k m false e a = a
 
   -- from accepted memory the call leaves accepted memory, at every allowance, refused or not
   pub call-accepted : (k : ℕ) (m : List ℕ) → Accepts m n → Accepts (call f queue k m .memory) n

@@ -8,6 +8,7 @@ use Prim.Native.Nat.{ℕ, _<_}
 use native.Mathlib.Decide.{ℕ-discrete}
 use native.Mathlib.Omega.{arith}
 use Rattle.words.specs.declared.Found.the-variants.{At}
+use Rattle.words.specs.Outcomes.{Outcome}
 use Rattle.words.proofs.Truth.{clash, decided}
 use Rattle.rows.specs.declared.Row.{Row}
 use Rattle.rows.specs.Rows.{isEmpty, isLast}
@@ -17,7 +18,8 @@ use Rattle.commands.specs.declared.Command.{Command}
 use Rattle.commands.specs.declared.Decoded.the-variants.{Legal}
 use Rattle.image.specs.Image.{controlOf, rowAt, rowsIn}
 use Rattle.image.proofs.Checks.{Accepts, accepts, rows-are}
-use Rattle.fills.specs.Fills.{Outcome, fill}
+use Rattle.fills.specs.declared.FillAnswer.{FillAnswer}
+use Rattle.fills.specs.Fills.{fill}
 use Rattle.fills.proofs.Laws.{Carried, other-rows-kept, half-filled, stays-accepted, Goes, stops, stores, which-way}
 use Rattle.steps.specs.Due.{scopedAt}
 use Rattle.runs.specs.Running.{run}
@@ -50,7 +52,7 @@ module _ (m : List ℕ) (row : ℕ) (words : Row) (k : ℕ) (h : k < 4) (t : Tra
   half-filled-unseen = by-way (which-way m row words)
     where
       by-way : Goes m row words → translate (fill m row words k .memory) t ≡ translate m t
-      by-way (stops why e) = ap (λ (o : Outcome). translate (o .memory) t) (e k)
+      by-way (stops why e) = ap (λ (o : Outcome (List ℕ) FillAnswer). translate (o .memory) t) (e k)
       by-way (stores n c) = carried-unseen n c
 
 -- what any search finds in the memory that a run leaves, at every allowance, lies in the scope of no command that it consumed

@@ -3,12 +3,13 @@
 use mathlib.Core.Path.{_≡_}
 use mathlib.Core.List.{List, [], _∷_}
 use Prim.Native.Nat.{ℕ, _+_}
+use Rattle.words.specs.Outcomes.{Outcome}
 use Rattle.commands.specs.declared.Features.{Features}
 use Rattle.runs.specs.declared.End.the-variants.{Cut}
 use Rattle.runs.specs.declared.Ran.{Ran}
 use Rattle.runs.specs.declared.RunAnswer.{RunAnswer}
 use Rattle.runs.specs.declared.RunAnswer.the-variants.{Refused, Done}
-use Rattle.runs.specs.Call.{Outcome, call}
+use Rattle.runs.specs.Call.{call}
 
 -- two answers as one: a refusal is the answer of both; else the four counts add up, and the end is the second's
 abbrev pub _and_ : RunAnswer → RunAnswer → RunAnswer
@@ -25,7 +26,7 @@ _and_ (Done ran) (Done ran′) =
     })
 
 -- calls with these allowances and then a last one, each on the memory that the one before left, as one call
-unfoldable pub calls : Features → List ℕ → List ℕ → ℕ → List ℕ → Outcome
+unfoldable pub calls : Features → List ℕ → List ℕ → ℕ → List ℕ → Outcome (List ℕ) RunAnswer
 calls f queue [] k m = call f queue k m
 calls f queue (a ∷ ks) k m =
     record {

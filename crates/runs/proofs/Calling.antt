@@ -8,6 +8,7 @@ use native.Mathlib.Omega.{arith}
 use lib.Dec.{eqb}
 use lib.ListN.{length}
 use borrow.Author.Tests.{eqb-true}
+use Rattle.words.specs.Outcomes.{Gives}
 use Rattle.control.specs.Control as control
 use Rattle.commands.specs.declared.Features.{Features}
 use Rattle.image.specs.declared.Refusal.{Refusal}
@@ -19,19 +20,19 @@ use Rattle.runs.specs.declared.Ran.{Ran}
 use Rattle.runs.specs.declared.RunRefusal.the-variants.{Image, BadQueue}
 use Rattle.runs.specs.declared.RunAnswer.the-variants.{Refused, Done}
 use Rattle.runs.specs.Running.{Does, Fit}
-use Rattle.runs.specs.Call.{queueGood, call, Calls}
+use Rattle.runs.specs.Call.{queueGood, call}
 
 module _ (f : Features) (queue : List ℕ) (k : ℕ) (m : List ℕ) where
-  pub refuses-image : (why : Refusal) → check m ≡ NotAccepted why → Calls f queue k m m (Refused (Image why))
+  pub refuses-image : (why : Refusal) → check m ≡ NotAccepted why → Gives (call f queue k m) m (Refused (Image why))
   unfolding call
   refuses-image why e = record { answers = rw e; leaves = rw e }
 
   module _ (n : ℕ) (e : check m ≡ Accepted n) where
-    pub refuses-queue : queueGood queue m ≡ false → Calls f queue k m m (Refused BadQueue)
+    pub refuses-queue : queueGood queue m ≡ false → Gives (call f queue k m) m (Refused BadQueue)
     unfolding call
     refuses-queue q = record { answers = rw (e, q); leaves = rw (e, q) }
 
-    pub does : {m′ : List ℕ} {r : Ran} → queueGood queue m ≡ true → Does f queue k m m′ r → Calls f queue k m m′ (Done r)
+    pub does : {m′ : List ℕ} {r : Ran} → queueGood queue m ≡ true → Does f queue k m m′ r → Gives (call f queue k m) m′ (Done r)
     unfolding call
     does q d = record { answers = rw (e, q) (ap Done (d .answers)); leaves = rw (e, q) (d .leaves) }
 

@@ -4,7 +4,8 @@ mod running;
 use commands::Features;
 use image::Checked;
 use image::Refusal;
-ghost use Rattle.runs.specs.Call.{Calls};
+ghost use Rattle.words.specs.Outcomes.{Gives};
+ghost use Rattle.runs.specs.Call.{call};
 
 // Why a run ended.
 pub enum End {
@@ -37,7 +38,7 @@ pub enum RunAnswer {
 
 // Carries out the commands that wait, with at most allowance stores.
 pub fn run(kept: &mut [u64], queue: &[u8], f: Features, allowance: u64) -> RunAnswer
-    ensures { λ r. ⌜ Calls f (now (queue .entry)) allowance (now (kept .entry)) (now (kept .exit)) r ⌝ }
+    ensures { λ r. ⌜ Gives (call f (now (queue .entry)) allowance (now (kept .entry))) (now (kept .exit)) r ⌝ }
 {
     let checked = image::check(&*kept);
     if let Checked::Refused(why) = checked {

@@ -60,7 +60,3 @@ module _ (bytes : List ℕ) where
     where
       never : (n : ℕ) → Long (wordsIn bytes (length bytes / 8)) n → ⊥
       never n l = omega (arith, l .words, l .few, words-length bytes (length bytes / 8))
-
--- two answers that the contracts allow are equal
-pub pinned : (m : List ℕ) (r r′ : StateAnswer) → r ≡ stateOf m → r′ ≡ stateOf m → r ≡ r′
-pinned m r r′ e e′ = e ∙ sym e′

@@ -9,9 +9,7 @@ use Rattle.words.specs.Choice.{pick}
 use Rattle.words.specs.Bytes.{wordAt}
 use Rattle.control.specs.Control as control
 use Rattle.image.specs.declared.Refusal.the-variants.{BadLength}
-use Rattle.image.specs.declared.Checked.{Checked}
-use Rattle.image.specs.declared.Checked.the-variants.{Accepted, Refused as NotAccepted}
-use Rattle.image.specs.Image.{controlOf, check, usedRows}
+use Rattle.image.specs.Image.{controlOf, check, checked, usedRows}
 use Rattle.states.specs.declared.State.{State}
 use Rattle.states.specs.declared.StateAnswer.{StateAnswer}
 use Rattle.states.specs.declared.StateAnswer.the-variants.{Refused, Is}
@@ -28,12 +26,8 @@ told w used =
       used = used;
     }
 
-abbrev pub byCheck : Checked → List ℕ → StateAnswer
-byCheck (NotAccepted why) m = Refused why
-byCheck (Accepted n) m = Is (told (controlOf m) (usedRows m n))
-
 unfoldable pub stateOf : List ℕ → StateAnswer
-stateOf m = byCheck (check m) m
+stateOf m = checked (check m) Refused (λ n. Is (told (controlOf m) (usedRows m n)))
 
 -- the first n words of some bytes
 unfoldable pub wordsIn : List ℕ → ℕ → List ℕ

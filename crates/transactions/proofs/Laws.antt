@@ -28,7 +28,7 @@ use Rattle.transactions.specs.declared.TransactionRefusal.the-variants.{
 use Rattle.transactions.specs.declared.TransactionAnswer.{TransactionAnswer}
 use Rattle.transactions.specs.declared.TransactionAnswer.the-variants.{Refused as NotDone, Done}
 use Rattle.transactions.specs.Steps.{Formed, usesStage1, usesStage2, overridden, byStage1, byCd, stage1, byStage2, stage2, onward, finished, bySte, translation}
-use Rattle.transactions.specs.Call.{onImage, translate}
+use Rattle.transactions.specs.Call.{translate}
 
 module _ (m : List ℕ) (t : Transaction) where
   -- refusals 1, 2 and 3 as the image's check has them
@@ -44,10 +44,6 @@ module _ (m : List ℕ) (t : Transaction) where
   pub carried-out : (n : ℕ) → check m ≡ Accepted n → Formed t → translate m t ≡ Done (translation m t)
   unfolding translate
   carried-out n e f = rw (e, f)
-
-  -- one answer
-  pub pinned : (r r′ : TransactionAnswer) → r ≡ translate m t → r′ ≡ translate m t → r ≡ r′
-  pinned r r′ e e′ = e ∙ sym e′
 
 -- two memories in which every search finds the same
 module _ (m m′ : List ℕ) (t : Transaction) (same : (w : Wanted) → look m w ≡ look m′ w) where

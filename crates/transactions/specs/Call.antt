@@ -5,8 +5,6 @@ use mathlib.Core.List.{List}
 use Prim.Native.Nat.{ℕ}
 use Rattle.words.specs.Choice.{pick}
 use Rattle.attributes.specs.Formats.{wellFormed}
-use Rattle.image.specs.declared.Checked.{Checked}
-use Rattle.image.specs.declared.Checked.the-variants.{Accepted, Refused}
 use Rattle.image.specs.Image as image
 use Rattle.transactions.specs.declared.Transaction.{Transaction}
 use Rattle.transactions.specs.declared.Miss.{Miss}
@@ -33,10 +31,8 @@ outcomeNumber (Missed Cd) = 3
 outcomeNumber (Missed Stage1) = 4
 outcomeNumber (Missed Stage2) = 5
 
--- the image's own refusal, then refusal 10, and only then the steps
-abbrev pub onImage : Checked → List ℕ → Transaction → TransactionAnswer
-onImage (Refused why) m t = NotDone (Image why)
-onImage (Accepted n) m t = pick (not (wellFormed (t .attributes))) (NotDone IllFormed) (Done (translation m t))
-
+-- refusal 10 before anything is looked up
 unfoldable pub translate : List ℕ → Transaction → TransactionAnswer
-translate m t = onImage (image.check m) m t
+translate m t =
+    image.checked (image.check m) (λ why. NotDone (Image why))
+    (λ n. pick (not (wellFormed (t .attributes))) (NotDone IllFormed) (Done (translation m t)))

@@ -6,3 +6,4 @@ pub mod TwoWords
 pub mod Bytes
 pub mod Search
 pub mod Stores
+pub mod Outcomes

@@ -4,3 +4,4 @@ pub mod Ranges
 pub mod Bytes
 pub mod Search
 pub mod Stores
+pub mod Outcomes

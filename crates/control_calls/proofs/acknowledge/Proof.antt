@@ -4,8 +4,9 @@ use mathlib.Core.Path.{_≡_, sym, _∙_}
 use denote.Ref.{now}
 use Rattle.image.specs.declared.Checked.the-variants.{Accepted}
 use Rattle.image.specs.Image.{check}
+use Rattle.words.proofs.Outcomes.{gives}
 use borrow.Author.Tests.{not-true, not-false}
-use Rattle.control_calls.proofs.Cases.{has-control, acknowledges, acknowledge-image, acknowledge-none, acknowledge-stores}
+use Rattle.control_calls.proofs.Cases.{has-control, acknowledge-image, acknowledge-none, acknowledge-stores}
 use borrow.Author.Needs.{needs}
 use Rattle.control_calls.proofs.acknowledge.Statement.{statement}
 use Rattle.control_calls.proofs.acknowledge.Tie as tie
@@ -18,17 +19,17 @@ slice-read-w : tie.Need-slice-read-w
 slice-read-w c = has-control _ _ (accepted (c .before))
 
 returns : tie.Need-returns
-returns c = acknowledges (acknowledge-none _ _ (accepted (c .before .before .before)) (sym (c .before .active .ensures) ∙ not-true _ (c .if1 .taken)))
+returns c = gives (acknowledge-none _ _ (accepted (c .before .before .before)) (sym (c .before .active .ensures) ∙ not-true _ (c .if1 .taken)))
 
 slice-write-kept : tie.Need-slice-write-kept
 slice-write-kept c = has-control _ _ (accepted (c .before .before .before .before))
 
 returns-2 : tie.Need-returns-2
-returns-2 c = acknowledges (acknowledge-image _ _ (sym (c .before .before .before .check .ensures) ∙ c .before .why .given .1))
+returns-2 c = gives (acknowledge-image _ _ (sym (c .before .before .before .check .ensures) ∙ c .before .why .given .1))
 
 returns-3 : tie.Need-returns-3
 returns-3 c =
-    acknowledges (rw (c .acknowledged .ensures) (acknowledge-stores _ _ (accepted (c .before .before .before .before))
+    gives (rw (c .acknowledged .ensures) (acknowledge-stores _ _ (accepted (c .before .before .before .before))
     (sym (c .before .before .active .ensures) ∙ not-false _ (c .before .if1 .left))))
 
 pub acknowledge-spec : {M : Type 1} → statement M

@@ -5,7 +5,8 @@ use denote.Ref.{now}
 use borrow.Author.Tests.{not-true, not-false}
 use Rattle.image.specs.declared.Checked.the-variants.{Accepted}
 use Rattle.image.specs.Image.{check}
-use Rattle.control_calls.proofs.Cases.{has-control, rings, doorbell-image, doorbell-index, doorbell-rings}
+use Rattle.words.proofs.Outcomes.{gives}
+use Rattle.control_calls.proofs.Cases.{has-control, doorbell-image, doorbell-index, doorbell-rings}
 use borrow.Author.Needs.{needs}
 use Rattle.control_calls.proofs.doorbell.Statement.{statement}
 use Rattle.control_calls.proofs.doorbell.Tie as tie
@@ -18,17 +19,17 @@ slice-read-w : tie.Need-slice-read-w
 slice-read-w c = has-control _ _ (accepted (c .before))
 
 returns : tie.Need-returns
-returns c = rings (doorbell-index _ _ _ (accepted (c .before .before .before)) (sym (c .before .may-ring .ensures) ∙ not-true _ (c .if1 .taken)))
+returns c = gives (doorbell-index _ _ _ (accepted (c .before .before .before)) (sym (c .before .may-ring .ensures) ∙ not-true _ (c .if1 .taken)))
 
 slice-write-kept : tie.Need-slice-write-kept
 slice-write-kept c = has-control _ _ (accepted (c .before .before .before .before))
 
 returns-2 : tie.Need-returns-2
-returns-2 c = rings (doorbell-image _ _ _ (sym (c .before .before .before .check .ensures) ∙ c .before .why .given .1))
+returns-2 c = gives (doorbell-image _ _ _ (sym (c .before .before .before .check .ensures) ∙ c .before .why .given .1))
 
 returns-3 : tie.Need-returns-3
 returns-3 c =
-    rings (rw (c .rung .ensures) (doorbell-rings _ _ _ (accepted (c .before .before .before .before))
+    gives (rw (c .rung .ensures) (doorbell-rings _ _ _ (accepted (c .before .before .before .before))
     (sym (c .before .before .may-ring .ensures) ∙ not-false _ (c .before .if1 .left))))
 
 pub doorbell-spec : {M : Type 1} → statement M

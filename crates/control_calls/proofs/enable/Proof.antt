@@ -4,7 +4,8 @@ use mathlib.Core.Path.{_≡_, sym, _∙_}
 use denote.Ref.{now}
 use Rattle.image.specs.declared.Checked.the-variants.{Accepted}
 use Rattle.image.specs.Image.{check}
-use Rattle.control_calls.proofs.Cases.{has-control, enables, enable-image, enable-stores}
+use Rattle.words.proofs.Outcomes.{gives}
+use Rattle.control_calls.proofs.Cases.{has-control, enable-image, enable-stores}
 use borrow.Author.Needs.{needs}
 use Rattle.control_calls.proofs.enable.Statement.{statement}
 use Rattle.control_calls.proofs.enable.Tie as tie
@@ -20,10 +21,10 @@ slice-write-kept : tie.Need-slice-write-kept
 slice-write-kept c = has-control _ _ (accepted (c .before .before))
 
 returns : tie.Need-returns
-returns c = enables (enable-image _ _ _ (sym (c .before .before .before .check .ensures) ∙ c .before .why .given .1))
+returns c = gives (enable-image _ _ _ (sym (c .before .before .before .check .ensures) ∙ c .before .why .given .1))
 
 returns-2 : tie.Need-returns-2
-returns-2 c = enables (rw (c .switched .ensures) (enable-stores _ _ _ (accepted (c .before .before))))
+returns-2 c = gives (rw (c .switched .ensures) (enable-stores _ _ _ (accepted (c .before .before))))
 
 pub enable-spec : {M : Type 1} → statement M
 enable-spec =

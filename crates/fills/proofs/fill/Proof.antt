@@ -8,7 +8,8 @@ use lib.ListN.{length}
 use borrow.Author.Tests.{not-true, not-false}
 use Rattle.image.specs.declared.Checked.the-variants.{Accepted}
 use Rattle.image.specs.Image.{check}
-use Rattle.fills.proofs.Cases.{used, unused, inside, fill-image, fill-no-row, fill-in-use, fill-unfit, fill-done, meets, meets-done}
+use Rattle.words.proofs.Outcomes.{gives}
+use Rattle.fills.proofs.Cases.{used, unused, inside, fill-image, fill-no-row, fill-in-use, fill-unfit, fill-done, meets-done}
 use borrow.Author.Needs.{needs}
 use Rattle.fills.proofs.fill.Statement.{statement}
 use Rattle.fills.proofs.fill.Tie as tie
@@ -24,7 +25,7 @@ room : (c : tie.Else1)
 room c = inside _ _ _ (accepted (c .before .before)) (c .if1 .left)
 
 returns : tie.Need-returns
-returns c = meets (fill-no-row _ _ _ _ _ (accepted (c .before .before)) (c .if1 .taken))
+returns c = gives (fill-no-row _ _ _ _ _ (accepted (c .before .before)) (c .if1 .taken))
 
 mul-if2 : tie.Need-mul-if2
 mul-if2 c = omega (arith, room c)
@@ -39,11 +40,11 @@ slice-read-if2 : tie.Need-slice-read-if2
 slice-read-if2 c = omega (arith, room (c .before))
 
 returns-2 : tie.Need-returns-2
-returns-2 c = meets (fill-in-use _ _ _ _ _ (accepted (c .before .before .before .before)) (c .before .before .if1 .left) (used _ _ (c .if2 .taken)))
+returns-2 c = gives (fill-in-use _ _ _ _ _ (accepted (c .before .before .before .before)) (c .before .before .if1 .left) (used _ _ (c .if2 .taken)))
 
 returns-3 : tie.Need-returns-3
 returns-3 c =
-    meets
+    gives
     (fill-unfit _ _ _ _ _ (accepted (c .before .before .before .before .before .before)) (c .before .before .before .before .if1 .left)
     (unused _ _ (c .before .before .if2 .left)) (sym (c .before .is-fit .ensures) ∙ not-true _ (c .if3 .taken)))
 
@@ -51,7 +52,7 @@ steps-requires : tie.Need-steps-requires
 steps-requires c κs = room (c .before .before .before .before .before)
 
 returns-4 : tie.Need-returns-4
-returns-4 c = meets (fill-image _ _ _ _ _ (sym (c .before .before .before .check .ensures) ∙ c .before .why .given .1))
+returns-4 c = gives (fill-image _ _ _ _ _ (sym (c .before .before .before .check .ensures) ∙ c .before .why .given .1))
 
 returns-5 : tie.Need-returns-5
 returns-5 c =
