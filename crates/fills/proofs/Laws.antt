@@ -5,16 +5,16 @@ use mathlib.Core.Path.{_≡_, refl, sym, ap, _∙_}
 use mathlib.Core.Bool.{Bool, true, false, not}
 use mathlib.Core.List.{List}
 use mathlib.Core.Logic.{_⊎_, inl, inr, ⊎-elim}
-use Prim.Native.Nat.{ℕ, _+_, _*_, _≤_, _<_}
+use Prim.Native.Nat.{ℕ, zero, suc, _+_, _*_, _≤_, _<_}
 use native.Mathlib.Decide.{ℕ-discrete}
 use native.Mathlib.Omega.{arith}
 use lib.Dec.{eqb}
 use lib.ListN.{length, getD, set}
-use lib.Seq.{getD-set-same, getD-set-other, set-set, set-comm}
+use lib.Seq.{getD-set-same, getD-set-other}
 use borrow.Author.Tests.{not-true, not-false}
-use Rattle.words.specs.Stores.{afterStores}
+use Rattle.words.specs.Stores.{storeIn, afterStores}
 use Rattle.words.specs.Outcomes.{Outcome}
-use Rattle.words.proofs.Stores.{after-all, after-length}
+use Rattle.words.proofs.Stores.{after-all, after-length, stores-keep, untouched, over-cut}
 use Rattle.words.proofs.Truth.{left, right, and-true, less-or-not}
 use Rattle.rows.specs.declared.Row.{Row}
 use Rattle.rows.specs.Rows.{isEmpty}
@@ -49,27 +49,26 @@ module _ (row : ℕ) (words : Row) where
   after-enough : (k : ℕ) (m : List ℕ) → 4 ≤ k → after k m ≡ after 4 m
   after-enough k m h = after-all k (fillStores row words) m h
 
-  -- what each store into the row keeps, every allowance keeps
+  -- every store goes into the row
+  in-row : (i : ℕ) → i < 4 → InRow row (storeIn (fillStores row words) i .at)
+  in-row =
+      let place : (d : ℕ) → 1 ≤ d → d ≤ 4 → InRow row (4 * row + d) = λ d a b. record { from = omega arith; to = omega arith } in
+      each-place (λ i. InRow row (storeIn (fillStores row words) i .at))
+      (place 2 (omega arith) (omega arith)) (place 3 (omega arith) (omega arith)) (place 4 (omega arith) (omega arith)) (place 1 (omega arith) (omega arith))
+
+  -- so what a store into the row keeps, every allowance keeps
   keeps : (P : List ℕ → Type 0) → ((m : List ℕ) (p v : ℕ) → InRow row p → P m → P (set m p v)) → (k : ℕ) (m : List ℕ) → P m → P (after k m)
-  unfolding afterStores
-  keeps P s k m p =
-      let in-row : (d : ℕ) → 1 ≤ d → d ≤ 4 → InRow row (4 * row + d) = λ d a b. record { from = omega arith; to = omega arith } in
-      let p1 : P (after 1 m) = s m (4 * row + 2) (words .w1) (in-row 2 (omega arith) (omega arith)) p in
-      let p2 : P (after 2 m) = s (after 1 m) (4 * row + 3) (words .w2) (in-row 3 (omega arith) (omega arith)) p1 in
-      let p3 : P (after 3 m) = s (after 2 m) (4 * row + 4) (words .w3) (in-row 4 (omega arith) (omega arith)) p2 in
-      let p4 : P (after 4 m) = s (after 3 m) (4 * row + 1) (words .w0) (in-row 1 (omega arith) (omega arith)) p3 in
-      ⊎-elim (each-place (λ j. P (after j m)) p p1 p2 p3 k) (λ h. rw (after-enough k m h) p4) (less-or-not k 4)
+  keeps P s k m p = stores-keep P (fillStores row words) (λ i h l q. s l _ _ (in-row i h) q) k m p
 
   -- word 0 waits for the last store
   waits : (m : List ℕ) (k : ℕ) → k < 4 → getD (after k m) (4 * row + 1) 0 ≡ getD m (4 * row + 1) 0
-  unfolding afterStores
-  waits m =
-      let other : (l : List ℕ) (d v : ℕ) → 2 ≤ d → getD (set l (4 * row + d) v) (4 * row + 1) 0 ≡ getD l (4 * row + 1) 0 =
-      λ l d v h. getD-set-other l (4 * row + d) (4 * row + 1) v 0 (omega arith) in
-      let e1 = other m 2 (words .w1) (omega arith) in
-      let e2 = other (after 1 m) 3 (words .w2) (omega arith) ∙ e1 in
-      let e3 = other (after 2 m) 4 (words .w3) (omega arith) ∙ e2 in
-      each-place (λ k. getD (after k m) (4 * row + 1) 0 ≡ getD m (4 * row + 1) 0) refl e1 e2 e3
+  waits m k h = untouched (4 * row + 1) (fillStores row words) k m (λ i l b. later i (omega arith))
+    where
+      later : (i : ℕ) → i < 3 → 4 * row + 1 ≡ storeIn (fillStores row words) i .at → ⊥
+      later zero l e = omega arith
+      later (suc zero) l e = omega arith
+      later (suc (suc zero)) l e = omega arith
+      later (suc (suc (suc i))) l e = omega arith
 
   -- then the row holds the four words
   holds-words : (m : List ℕ) → 4 * row + 5 ≤ length m → rowAt (after 4 m) row ≡ words
@@ -91,21 +90,6 @@ module _ (row : ℕ) (words : Row) where
         other (after 3 m) 1 4 (words .w0) (omega arith),
         here 2 4 (words .w3) (omega arith),
       )
-
-  -- the whole list of stores takes back no less than what a part of it left
-  over-cut : (m : List ℕ) (k : ℕ) → k < 4 → after 4 (after k m) ≡ after 4 m
-  unfolding afterStores
-  over-cut m =
-      let o1 : (l : List ℕ) → after 4 (set l (4 * row + 2) (words .w1)) ≡ after 4 l = λ l. rw set-set in
-      let o2 : (l : List ℕ) → after 4 (set l (4 * row + 3) (words .w2)) ≡ after 4 l =
-      λ l. rw (set-comm l (4 * row + 3) (4 * row + 2) (words .w2) (words .w1) (omega arith), set-set) in
-      let o3 : (l : List ℕ) → after 4 (set l (4 * row + 4) (words .w3)) ≡ after 4 l =
-      λ l. rw (
-        set-comm l (4 * row + 4) (4 * row + 2) (words .w3) (words .w1) (omega arith),
-        set-comm (after 1 l) (4 * row + 4) (4 * row + 3) (words .w3) (words .w2) (omega arith),
-        set-set,
-      ) in
-      each-place (λ k. after 4 (after k m) ≡ after 4 m) refl (o1 m) (o2 (after 1 m) ∙ o1 m) (o3 (after 2 m) ∙ o2 (after 1 m) ∙ o1 m)
 
 module _ (m : List ℕ) (n row : ℕ) (words : Row) (c : Carried m n row words) where
   pub carried : (k : ℕ) → fill m row words k ≡ done m row words k
@@ -195,7 +179,7 @@ fill-again m n row words c k k′ h h′ =
     same : afterStores k′ (fillStores row words) (fill m row words k .memory) ≡ afterStores k′ (fillStores row words) m
     same =
         rw (left-by m n row words c k)
-        (after-enough row words k′ (afterStores k (fillStores row words) m) h′ ∙ over-cut row words m k h
+        (after-enough row words k′ (afterStores k (fillStores row words) m) h′ ∙ over-cut k (fillStores row words) m (omega arith)
         ∙ sym (after-enough row words k′ m h′))
 
 -- which way a fill goes, whatever its allowance is: refused and nothing stored, or carried out

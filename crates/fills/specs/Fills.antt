@@ -5,10 +5,9 @@ use mathlib.Core.Bool.{Bool, not, _&&_}
 use mathlib.Core.List.{List, [], _∷_}
 use Prim.Native.Nat.{ℕ, _+_, _*_}
 use lib.Dec.{leb, ltb}
-use lib.ListN.{getD}
 use Rattle.words.specs.Choice.{pick}
 use Rattle.words.specs.Outcomes.{Outcome, with}
-use Rattle.words.specs.Stores.{Store, afterStores}
+use Rattle.words.specs.Stores.{Store, storeIn, afterStores}
 use Rattle.rows.specs.declared.Row.{Row}
 use Rattle.rows.specs.Rows.{isEmpty}
 use Rattle.rows.specs.WellFormed as rows
@@ -43,7 +42,7 @@ fillStores row words =
 
 -- the one at a place of the list, counted from 0
 unfoldable pub storeAt : ℕ → Row → ℕ → Store
-storeAt row words place = getD (fillStores row words) place (record { at = 0; value = 0 })
+storeAt row words place = storeIn (fillStores row words) place
 
 -- a row may be filled with these words
 unfoldable pub fit : Row → Bool
