@@ -4,6 +4,7 @@ use crate::call::{Call, Reply};
 use crate::generate::random::Random;
 use crate::laws;
 use crate::lent::Lent;
+use crate::modelled;
 use crate::report::{stop, Scene};
 use crate::tally::Tally;
 use crate::unit;
@@ -50,7 +51,7 @@ impl Checker {
             number,
             answer: std::array::from_fn(|place| answer.inner()[place]),
         };
-        let ours = call.on_model(kept, &mut self.tally);
+        let ours = modelled::perform(call, kept, &mut self.tally);
 
         let scene = self.scene(&before, call, (theirs, lent.inner()), (ours, kept));
         if theirs != ours || lent.inner() != kept {

@@ -18,12 +18,15 @@
 //! `--cfg faulty` the model has a fault in one scope (model/scope.rs), and a run
 //! has to exit 1.
 
+mod answers;
 mod call;
 mod checker;
 mod generate;
+mod interface;
 mod laws;
 mod lent;
 mod model;
+mod modelled;
 mod phases;
 mod report;
 mod tally;

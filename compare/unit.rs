@@ -1,46 +1,8 @@
 //! The unit under test, through its C interface.
 
 use crate::call::{Asked, Call};
+use crate::interface::*;
 use crate::lent::Lent;
-
-extern "C" {
-    fn tahvenno_run(
-        kept: *mut u64,
-        words: usize,
-        queue: *const u8,
-        bytes: usize,
-        features: u64,
-        allowance: u64,
-        answer: *mut u64,
-    ) -> u64;
-    fn tahvenno_fill(
-        kept: *mut u64,
-        words: usize,
-        row: u64,
-        w0: u64,
-        w1: u64,
-        w2: u64,
-        w3: u64,
-        allowance: u64,
-        answer: *mut u64,
-    ) -> u64;
-    fn tahvenno_doorbell(kept: *mut u64, words: usize, wr: u64, answer: *mut u64) -> u64;
-    fn tahvenno_acknowledge(kept: *mut u64, words: usize, answer: *mut u64) -> u64;
-    fn tahvenno_enable(kept: *mut u64, words: usize, on: u64, answer: *mut u64) -> u64;
-    fn tahvenno_translate(
-        kept: *const u64,
-        words: usize,
-        stream: u32,
-        substream: u32,
-        address: u64,
-        how: u64,
-        memattr: u64,
-        sh: u64,
-        hints: u64,
-        answer: *mut u64,
-    ) -> u64;
-    fn tahvenno_state(kept: *const u64, words: usize, answer: *mut u64) -> u64;
-}
 
 /// Makes the call; returns the number, and leaves eight words in `answer`.
 pub fn perform(call: Call, kept: &mut Lent, answer: &mut Lent) -> u64 {

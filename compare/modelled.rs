@@ -1,0 +1,47 @@
+//! The model behind the C interface, watched by the tally.
+
+use crate::answers::{answer, filled, ran, reply, standing, transaction, translated};
+use crate::call::{Asked, Call, Reply};
+use crate::model::command::Features;
+use crate::model::control_calls::{acknowledge, doorbell, enable};
+use crate::model::fill::fill;
+use crate::model::refusal::Refusal;
+use crate::model::run::run;
+use crate::model::state::state;
+use crate::model::transaction::{stream_row, translate, Outcome};
+use crate::tally::Tally;
+
+/// Makes the call, and tells the tally what came of it.
+pub fn perform(call: Call, kept: &mut [u64], tally: &mut Tally) -> Reply {
+    let result = match call {
+        Call::Run {
+            queue,
+            features,
+            allowance,
+        } => {
+            let watch = |code, fate| tally.count_command(code, fate);
+            run(kept, queue, Features::from_bits(features), allowance, watch).map(ran)
+        }
+        Call::Fill {
+            row,
+            words,
+            allowance,
+        } => fill(kept, row, words, allowance).map(filled),
+        Call::Doorbell { wr } => doorbell(kept, wr).map(|()| answer(&[])),
+        Call::Acknowledge => acknowledge(kept).map(|()| answer(&[])),
+        Call::Enable { on } => enable(kept, on != 0).map(|()| answer(&[])),
+        Call::Translate(asked) => outcome(kept, asked, tally).map(translated),
+        Call::State => state(kept).map(standing),
+    };
+    let reply = reply(result);
+    tally.count(&call, &reply);
+    reply
+}
+
+fn outcome(kept: &[u64], asked: Asked, tally: &mut Tally) -> Result<Outcome, Refusal> {
+    let outcome = translate(kept, &transaction(asked))?;
+    if let Some(row) = stream_row(kept, asked.stream.into()) {
+        tally.count_config(row.config(), matches!(outcome, Outcome::Passed(_)));
+    }
+    Ok(outcome)
+}
