@@ -12,8 +12,17 @@
 //! CASE is a letter, SIDE `unit` or `model`, and of the table the first ROWS rows
 //! are left. Lines have fields between tabs, the first line their names.
 
+#[allow(dead_code)]
+#[path = "../compare/answers.rs"]
+mod answers;
+#[allow(dead_code)]
+#[path = "../compare/call.rs"]
+mod call;
 mod cases;
 mod gap;
+#[allow(dead_code)]
+#[path = "../compare/interface.rs"]
+mod interface;
 mod measure;
 #[allow(dead_code)]
 #[path = "../compare/model/mod.rs"]

@@ -1,14 +1,13 @@
 //! The model's run and transaction as the C interface has them.
 //!
 //! They keep their names in the program, by which their instructions are counted.
-//! A refusal's row isn't told: no case is refused, and `verify.rs` sees to it.
 
-use crate::model::attributes::Attributes;
+use crate::answers::{ran, reply, transaction, translated};
+use crate::call::{Asked, Reply};
 use crate::model::command::Features;
 use crate::model::refusal::Refusal;
 use crate::model::run::run;
-use crate::model::transaction::{translate, Outcome, Transaction};
-use crate::model::words::bit;
+use crate::model::transaction::translate;
 use std::slice;
 
 #[no_mangle]
@@ -24,20 +23,8 @@ pub unsafe extern "C" fn model_run(
     let kept = slice::from_raw_parts_mut(kept, words);
     let queue = slice::from_raw_parts(queue, bytes);
     let features = Features::from_bits(features);
-    let told = run(kept, queue, features, allowance, |_, _| ()).map(|ran| {
-        let end = ran.end as u64;
-        [
-            end,
-            ran.consumed,
-            ran.stores,
-            ran.removed,
-            ran.syncs,
-            0,
-            0,
-            0,
-        ]
-    });
-    tell(told, answer)
+    let report = run(kept, queue, features, allowance, |_, _| ());
+    tell(report.map(ran), answer)
 }
 
 #[no_mangle]
@@ -53,41 +40,22 @@ pub unsafe extern "C" fn model_translate(
     hints: u64,
     answer: *mut u64,
 ) -> u64 {
-    let asked = Transaction {
-        stream: stream.into(),
-        substream: substream.into(),
+    let asked = Asked {
+        stream,
+        substream,
         address,
-        write: bit(how, 0),
-        instruction: bit(how, 1),
-        privileged: bit(how, 2),
-        attributes: Attributes { memattr, sh, hints },
+        how,
+        memattr,
+        sh,
+        hints,
     };
     let kept = slice::from_raw_parts(kept, words);
-    tell(translate(kept, &asked).map(words_of), answer)
+    let outcome = translate(kept, &transaction(asked));
+    tell(outcome.map(translated), answer)
 }
 
-unsafe fn tell(told: Result<[u64; 8], Refusal>, answer: *mut u64) -> u64 {
-    let (number, words) = match told {
-        Ok(words) => (0, words),
-        Err(refusal) => (refusal.number(), [0; 8]),
-    };
-    slice::from_raw_parts_mut(answer, 8).copy_from_slice(&words);
+unsafe fn tell(result: Result<[u64; 8], Refusal>, told: *mut u64) -> u64 {
+    let Reply { number, answer } = reply(result);
+    slice::from_raw_parts_mut(told, 8).copy_from_slice(&answer);
     number
-}
-
-fn words_of(outcome: Outcome) -> [u64; 8] {
-    let end = match outcome {
-        Outcome::Passed(passed) => {
-            let (held, address) = (passed.attributes, passed.address);
-            let (instruction, privileged) = (passed.instruction.into(), passed.privileged.into());
-            let (memattr, sh, hints) = (held.memattr, held.sh, held.hints);
-            return [0, address, memattr, sh, hints, instruction, privileged, 0];
-        }
-        Outcome::Abort => 1,
-        Outcome::MissSte => 2,
-        Outcome::MissCd => 3,
-        Outcome::MissStage1 => 4,
-        Outcome::MissStage2 => 5,
-    };
-    [end, 0, 0, 0, 0, 0, 0, 0]
 }

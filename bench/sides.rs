@@ -1,36 +1,14 @@
 //! The unit and the model behind functions of one shape, that of the C interface.
 
+use crate::call::Reply;
 use crate::cases::{Case, Work};
+use crate::interface::{tahvenno_run, tahvenno_translate};
 use crate::modelled::{model_run, model_translate};
 use std::hint::black_box;
 
 pub type Run = unsafe extern "C" fn(*mut u64, usize, *const u8, usize, u64, u64, *mut u64) -> u64;
 pub type Translate =
     unsafe extern "C" fn(*const u64, usize, u32, u32, u64, u64, u64, u64, u64, *mut u64) -> u64;
-
-extern "C" {
-    fn tahvenno_run(
-        kept: *mut u64,
-        words: usize,
-        queue: *const u8,
-        bytes: usize,
-        features: u64,
-        allowance: u64,
-        answer: *mut u64,
-    ) -> u64;
-    fn tahvenno_translate(
-        kept: *const u64,
-        words: usize,
-        stream: u32,
-        substream: u32,
-        address: u64,
-        how: u64,
-        memattr: u64,
-        sh: u64,
-        hints: u64,
-        answer: *mut u64,
-    ) -> u64;
-}
 
 pub struct Side {
     pub run: Run,
@@ -46,9 +24,6 @@ pub const MODEL: Side = Side {
     run: model_run,
     translate: model_translate,
 };
-
-/// The returned number and the answer's words.
-pub type Reply = (u64, [u64; 8]);
 
 impl Side {
     /// One call of a case. Not inlined, and through a hidden pointer, so that the
@@ -79,6 +54,7 @@ impl Side {
                 ),
             }
         };
-        (number, black_box(answer))
+        let answer = black_box(answer);
+        Reply { number, answer }
     }
 }

@@ -25,8 +25,8 @@ pub fn same(case: &Case) -> Result<Totals, String> {
                 "call {call} differs: unit {unit:x?}, model {model:x?}"
             ));
         }
-        let (number, answer) = unit;
-        if number != 0 || answer[0] != case.end {
+        let answer = unit.answer;
+        if unit.number != 0 || answer[0] != case.end {
             return Err(format!("call {call} ends otherwise: {unit:x?}"));
         }
         totals.stored |= ours != case.kept;

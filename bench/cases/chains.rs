@@ -1,7 +1,8 @@
 //! A table of 32 streams, each with its STE, CD, stage 1 and stage 2 row.
 
-use super::{memory, Asked, Case, Per, Work, ALL_FEATURES, COMMANDS, FULL_OFF, ROWS};
+use super::{memory, Case, Per, Work, ALL_FEATURES, COMMANDS, FULL_OFF, ROWS};
 use super::{STAGE1_PAYLOAD, STAGE2_PAYLOAD, STE_PAYLOAD};
+use crate::call::Asked;
 use crate::model::run::End;
 use crate::rows::{cd, ste, Reach, Words, STAGE1, STAGE2};
 

@@ -5,6 +5,7 @@ mod linux;
 mod mixed;
 mod pages;
 
+use crate::call::Asked;
 use crate::model::run::End;
 use crate::random::Random;
 use crate::rows::Words;
@@ -33,17 +34,6 @@ pub const STE_PAYLOAD: u64 = 1 << 5;
 pub enum Per {
     Command,
     Call,
-}
-
-/// A transaction as the C interface takes it.
-pub struct Asked {
-    pub stream: u32,
-    pub substream: u32,
-    pub address: u64,
-    pub how: u64,
-    pub memattr: u64,
-    pub sh: u64,
-    pub hints: u64,
 }
 
 pub enum Work {
