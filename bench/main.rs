@@ -23,6 +23,9 @@ mod gap;
 #[allow(dead_code)]
 #[path = "../compare/interface.rs"]
 mod interface;
+#[allow(dead_code)]
+#[path = "../compare/limits.rs"]
+mod limits;
 mod measure;
 #[allow(dead_code)]
 #[path = "../compare/model/mod.rs"]

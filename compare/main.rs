@@ -25,6 +25,7 @@ mod generate;
 mod interface;
 mod laws;
 mod lent;
+mod limits;
 mod model;
 mod modelled;
 mod phases;

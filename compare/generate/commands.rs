@@ -2,6 +2,7 @@
 
 use super::random::Random;
 use super::world::World;
+use crate::limits::{ADDRESS, ROWS, SLOTS};
 use crate::model::command::{decode, Features};
 
 pub const CODES: [u64; 14] = [
@@ -45,7 +46,7 @@ pub fn of_code(random: &mut Random, world: &World, code: u64) -> Command {
         0x03 | 0x05 => leaf,
         0x04 => range,
         0x12 | 0x13 => high_page | leaf,
-        0x2A => page % (1 << 52) | leaf,
+        0x2A => page % ADDRESS | leaf,
         _ => 0,
     };
     (low | code, high)
@@ -123,7 +124,7 @@ pub fn features(random: &mut Random) -> u64 {
 /// with little in its lower half.
 pub fn allowance(random: &mut Random) -> u64 {
     let small = random.below(12);
-    let middle = random.below(400);
+    let middle = random.below(SLOTS + ROWS + 16);
     let large = random.next() << 32 | small;
     random.pick(&[0, 1, small, small, middle, large, u64::MAX, u64::MAX])
 }

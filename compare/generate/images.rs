@@ -4,11 +4,12 @@ use super::commands;
 use super::random::Random;
 use super::rows::{any_row, chain, Words};
 use super::world::World;
+use crate::limits::{LOG2SIZE, ROWS, SLOTS};
 use crate::model::control::Control;
 
 /// Mostly small tables, now and then one up to the limit.
 fn row_count(random: &mut Random) -> usize {
-    let limit = random.pick(&[1, 4, 8, 8, 16, 16, 16, 32, 128]);
+    let limit = random.pick(&[1, 4, 8, 8, 16, 16, 16, 32, ROWS]);
     random.between(1, limit) as usize
 }
 
@@ -35,7 +36,7 @@ pub fn control(random: &mut Random, log2size: u64) -> Control {
 
 /// Queues of few slots, now and then up to the limit.
 pub fn any_size(random: &mut Random) -> u64 {
-    let limit = random.pick(&[0, 1, 2, 3, 3, 4, 5, 8]);
+    let limit = random.pick(&[0, 1, 2, 3, 3, 4, 5, LOG2SIZE]);
     random.between(0, limit)
 }
 
@@ -88,6 +89,6 @@ pub fn image(random: &mut Random, world: &World) -> Vec<u64> {
 /// the largest, which an ill-formed word may ask for.
 pub fn queue_for(random: &mut Random, world: &World, kept: &[u64], features: u64) -> Vec<u8> {
     let word = kept.first().copied().unwrap_or(0);
-    let slots = Control::fields(word).slots().min(256);
+    let slots = Control::fields(word).slots().min(SLOTS);
     commands::queue(random, world, features, slots)
 }

@@ -2,6 +2,7 @@
 
 use super::random::Random;
 use super::world::World;
+use crate::limits::BLOCKS;
 
 pub const STAGE1: u64 = 2;
 pub const STAGE2: u64 = 3;
@@ -121,7 +122,7 @@ pub fn any_row(random: &mut Random, world: &World) -> Words {
             let config = random.pick(&[0, 4, 5, 6, 7, 7]);
             ste(stream, world.vmid(random), config, ste_payload(random))
         }
-        3..=4 => ste_block(stream, random.pick(&[6, 8, 10])),
+        3..=4 => ste_block(stream, random.pick(&BLOCKS)),
         5..=6 => cd(stream, world.substream(random), world.asid(random)),
         7 => cd_table(stream),
         draw => {

@@ -1,9 +1,7 @@
 //! The small pools that one input draws from.
 
 use super::random::Random;
-
-/// One more than the largest address of a row.
-const ADDRESS_LIMIT: u64 = 1 << 52;
+use crate::limits::{ADDRESS, SPANS};
 
 pub struct World {
     streams: Vec<u64>,
@@ -84,19 +82,19 @@ fn spans(random: &mut Random) -> Vec<u64> {
     vec![
         12,
         usual,
-        random.between(12, 48),
-        random.pick(&[13, 47, 48]),
+        random.between(*SPANS.start(), *SPANS.end()),
+        random.pick(&[SPANS.start() + 1, SPANS.end() - 1, *SPANS.end()]),
     ]
 }
 
 /// A page, two that differ from it in one bit, its neighbour, and an extreme.
 fn pages(random: &mut Random) -> Vec<u64> {
-    let page = random.next() % ADDRESS_LIMIT & !0xFFF;
+    let page = random.next() % ADDRESS & !0xFFF;
     vec![
         page,
         page ^ 1 << random.between(12, 51),
         page ^ 1 << random.between(12, 51),
-        (page + 0x1000) % ADDRESS_LIMIT,
-        random.pick(&[0, ADDRESS_LIMIT - 0x1000]),
+        (page + 0x1000) % ADDRESS,
+        random.pick(&[0, ADDRESS - 0x1000]),
     ]
 }

@@ -1,6 +1,7 @@
 //! The control word (document 01, The kept memory).
 
 use super::words::{bit, part, with_part};
+use crate::limits::LOG2SIZE;
 
 #[derive(Clone, Copy, Debug, PartialEq, Eq)]
 pub struct Control {
@@ -34,7 +35,7 @@ impl Control {
     }
 
     fn consistent(&self) -> bool {
-        self.log2size <= 8
+        self.log2size <= LOG2SIZE
             && self.rd < self.ring()
             && self.wr < self.ring()
             && self.distance(self.wr) <= self.slots()

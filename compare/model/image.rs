@@ -3,6 +3,7 @@
 use super::control::Control;
 use super::refusal::Refusal;
 use super::row::Row;
+use crate::limits::{words, ROWS};
 
 /// The rows of a memory, lowest first.
 pub fn rows(kept: &[u64]) -> impl Iterator<Item = Row> + '_ {
@@ -23,7 +24,7 @@ pub fn used_rows(kept: &[u64]) -> u64 {
 
 /// The control fields of an acceptable memory, or the first refusal due.
 pub fn accept(kept: &[u64]) -> Result<Control, Refusal> {
-    if !(5..=513).contains(&kept.len()) || kept.len() % 4 != 1 {
+    if !(words(1)..=words(ROWS)).contains(&kept.len()) || kept.len() % 4 != 1 {
         return Err(Refusal::Length);
     }
     let control = Control::well_formed(kept[0]).ok_or(Refusal::Control)?;

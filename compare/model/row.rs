@@ -2,6 +2,7 @@
 
 use super::attributes::{memattr_ok, sh_ok, Attributes};
 use super::words::{bit, part, with_part};
+use crate::limits::{ADDRESS, BLOCKS, SPANS};
 
 #[derive(Clone, Copy, Debug, PartialEq, Eq)]
 pub enum Kind {
@@ -100,7 +101,7 @@ impl Row {
                 matches!(self.config(), 0 | 4..=7) && memattr_ok(part(self.0[0], 52, 49))
             }
             (Kind::Ste, false) => {
-                matches!(self.span(), 6 | 8 | 10) && aligned(self.stream(), self.span())
+                BLOCKS.contains(&self.span()) && aligned(self.stream(), self.span())
             }
             (Kind::Cd, _) => true,
             (_, false) => self.reach_ok(),
@@ -115,13 +116,11 @@ impl Row {
     }
 
     fn reach_ok(&self) -> bool {
-        (12..=48).contains(&self.span())
-            && self.input() < 1 << 52
-            && aligned(self.input(), self.span())
+        SPANS.contains(&self.span()) && self.input() < ADDRESS && aligned(self.input(), self.span())
     }
 
     fn output_ok(&self) -> bool {
-        self.output() < 1 << 52 && aligned(self.output(), self.span())
+        self.output() < ADDRESS && aligned(self.output(), self.span())
     }
 
     /// Parts that the paper doesn't name for the kind and level have to be 0.

@@ -10,6 +10,7 @@ use crate::generate::rows::{
     cd, reach, stage_payload, ste, ste_block, Reach, Words, STAGE1, STAGE2,
 };
 use crate::generate::world::World;
+use crate::limits::{ADDRESS, BLOCKS, SPANS};
 
 pub fn sweeps(checker: &mut Checker) {
     codes(checker);
@@ -77,7 +78,7 @@ fn ranges(checker: &mut Checker) {
         random.next() & 0xFFFF_FFFF,
         random.next() & 0xFFFF_FFFF,
     ] {
-        let span = random.pick(&[6, 8, 10]);
+        let span = random.pick(&BLOCKS);
         let rows: Vec<Words> = (0..32)
             .map(|bit| base ^ 1 << bit)
             .flat_map(|near| [ste(near, 0, 4, 0), cd(near, 0, 0), ste_block(near, span)])
@@ -94,7 +95,7 @@ fn ranges(checker: &mut Checker) {
 /// Commands and transactions at both edges of rows of every span.
 fn pages(checker: &mut Checker) {
     let mut random = checker.phase("every span at its edges");
-    for span in 12..=48 {
+    for span in SPANS {
         let world = World::new(&mut random);
         let first = Reach {
             span,
@@ -133,12 +134,7 @@ fn by_address(checker: &mut Checker, rows: &[Words], first: Reach, address: u64)
             0b1111,
         );
         one(checker, rows, (0x13 | vmid, page | leaf), 0b1111);
-        one(
-            checker,
-            rows,
-            (0x2A | vmid, page % (1 << 52) | leaf),
-            0b1111,
-        );
+        one(checker, rows, (0x2A | vmid, page % ADDRESS | leaf), 0b1111);
     }
 }
 

@@ -7,6 +7,7 @@ use crate::generate::commands;
 use crate::generate::images::{control, with_rows};
 use crate::generate::random::Random;
 use crate::generate::world::World;
+use crate::limits::{self, LOG2SIZE};
 use crate::model::control::Control;
 
 pub fn sweeps(checker: &mut Checker) {
@@ -92,7 +93,7 @@ fn doorbells(checker: &mut Checker) {
         }
     }
     for _ in 0..4000 {
-        let log2size = random.between(4, 8);
+        let log2size = random.between(4, LOG2SIZE);
         let control = control(&mut random, log2size);
         let ring = control.ring();
         let ahead = random.pick(&[0, 1, ring / 2 - 1, ring / 2, ring / 2 + 1, ring - 1]);
@@ -110,8 +111,8 @@ fn doorbells(checker: &mut Checker) {
 fn queues(checker: &mut Checker) {
     let mut random = checker.phase("queue lengths");
     let world = World::new(&mut random);
-    for log2size in 0..=8 {
-        let right = 16usize << log2size;
+    for log2size in 0..=LOG2SIZE {
+        let right = limits::bytes(log2size);
         for bytes in [
             0,
             1,

@@ -8,6 +8,7 @@ use crate::generate::images::{control, image, queue_for, table, with_rows};
 use crate::generate::random::Random;
 use crate::generate::rows::any_row;
 use crate::generate::world::World;
+use crate::limits;
 use crate::model::control::Control;
 
 pub fn cuts(checker: &mut Checker) {
@@ -36,24 +37,37 @@ impl Work {
 /// A rarity at which a whole queue is legal.
 const NEVER: u64 = u64::MAX;
 
-/// 256 commands over 128 rows, starting anywhere in the ring; an illegal command
-/// comes about once in `rarity`.
+/// Queue and table that are cut at every store: the largest, as long as that
+/// takes no minutes. Larger ones are cut at their edges (limits/queues.rs).
+const LOG2SIZE: u64 = if limits::LOG2SIZE < 8 {
+    limits::LOG2SIZE
+} else {
+    8
+};
+const ROWS: u64 = if limits::ROWS < 128 {
+    limits::ROWS
+} else {
+    128
+};
+
+/// A full queue over a full table, starting anywhere in the ring; an illegal
+/// command comes about once in `rarity`.
 fn full(random: &mut Random, rarity: u64) -> Work {
     let world = World::new(random);
-    let any = control(random, 8);
+    let any = control(random, LOG2SIZE);
     let full = Control {
-        wr: (any.rd + 256) % 512,
+        wr: (any.rd + any.slots()) % any.ring(),
         gerrorn: any.gerror,
         enabled: true,
         ..any
     };
-    let rows: Vec<_> = (0..128).map(|_| any_row(random, &world)).collect();
+    let rows: Vec<_> = (0..ROWS).map(|_| any_row(random, &world)).collect();
     let features = if rarity == NEVER {
         0b1111
     } else {
         features(random)
     };
-    let queue = queue_with(random, &world, features, 256, rarity);
+    let queue = queue_with(random, &world, features, any.slots(), rarity);
     Work {
         kept: with_rows(full, &rows),
         queue,

@@ -7,6 +7,7 @@ use crate::generate::images::{self, control, with_rows};
 use crate::generate::random::Random;
 use crate::generate::rows::{self, cd, cd_table, ste, ste_block, Reach, Words, STAGE1, STAGE2};
 use crate::generate::world::World;
+use crate::limits::{words, ADDRESS, BLOCKS, ROWS};
 use crate::phases::single::any_call;
 
 pub fn sweeps(checker: &mut Checker) {
@@ -28,7 +29,7 @@ fn samples(random: &mut Random, world: &World) -> [Words; 8] {
             random.pick(&[0, 4, 5, 6, 7]),
             rows::ste_payload(random),
         ),
-        ste_block(stream, random.pick(&[6, 8, 10])),
+        ste_block(stream, random.pick(&BLOCKS)),
         cd(stream, world.substream(random), world.asid(random)),
         cd_table(stream),
         first.page(world.page(random), rows::stage_payload(random, STAGE1)),
@@ -135,12 +136,11 @@ fn spans(checker: &mut Checker) {
             }
             fill(checker, [1 | span << 5, one, 0, 0]);
         }
-        let limit = 1 << 52;
         let [word, ..] = Reach { span, ..reach }.page(0, 0);
         for edge in [
-            limit - 1,
-            limit >> span << span,
-            (limit - 1) >> span << span,
+            ADDRESS - 1,
+            ADDRESS >> span << span,
+            (ADDRESS - 1) >> span << span,
         ] {
             fill(checker, [word, 0, edge, 0]);
             fill(checker, [word, 0, 0, edge]);
@@ -152,7 +152,12 @@ fn spans(checker: &mut Checker) {
 fn lengths(checker: &mut Checker) {
     let mut random = checker.phase("lengths of the memory");
     let world = World::new(&mut random);
-    for length in (0..=30).chain(500..=530).chain([1025, 2049]) {
+    let largest = words(ROWS);
+    let around = largest - 13..=largest + 17;
+    for length in (0..=30)
+        .chain(around)
+        .chain([words(2 * ROWS), words(4 * ROWS)])
+    {
         for index in 0..7 {
             let rows = images::table(&mut random, &world, length / 4 + 1);
             let mut kept = with_rows(control(&mut random, 2), &rows);

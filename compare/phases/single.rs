@@ -9,6 +9,7 @@ use crate::generate::random::Random;
 use crate::generate::rows::any_row;
 use crate::generate::transactions::aimed;
 use crate::generate::world::World;
+use crate::limits::ROWS;
 use crate::model::control::Control;
 
 /// Runs and transactions have more to them than the other calls.
@@ -86,7 +87,7 @@ pub fn any_fill(random: &mut Random, world: &World, kept: &[u64]) -> Call<'stati
     let row = match random.below(10) {
         0..=5 if !empty.is_empty() => random.pick(&empty),
         0..=8 => random.below(rows + 1),
-        _ => random.pick(&[rows, rows + 1, 128, 1 << 32, 1 << 62, u64::MAX]),
+        _ => random.pick(&[rows, rows + 1, ROWS, 1 << 32, 1 << 62, u64::MAX]),
     };
     let mut words = any_row(random, world);
     match random.below(8) {

@@ -1,0 +1,28 @@
+//! The limits of document 01, for the whole program: the model refuses beyond
+//! them, the generators reach them, and the phases stand on both sides of them.
+//! Another size of table or queue is another number here, and nowhere else.
+
+/// LOG2SIZE at most.
+pub const LOG2SIZE: u64 = 8;
+/// Rows of a table at most; at least it has one.
+pub const ROWS: u64 = 128;
+
+/// One more than the largest address of a row.
+pub const ADDRESS: u64 = 1 << 52;
+/// The spans of a stage row.
+pub const SPANS: std::ops::RangeInclusive<u64> = 12..=48;
+/// The spans of an STE row above the last level.
+pub const BLOCKS: [u64; 3] = [6, 8, 10];
+
+/// Slots of the largest queue.
+pub const SLOTS: u64 = 1 << LOG2SIZE;
+
+/// The words of a memory with so many rows.
+pub const fn words(rows: u64) -> usize {
+    1 + 4 * rows as usize
+}
+
+/// The bytes of a queue.
+pub const fn bytes(log2size: u64) -> usize {
+    16 << log2size
+}
