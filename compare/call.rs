@@ -46,6 +46,33 @@ pub const NAMES: [&str; 7] = [
     "state",
 ];
 
+/// The numbers that each call is passed and their bits, in the order of the C
+/// interface; memory and queue aren't among them.
+pub const NUMBERS: [&[(&str, u32)]; 7] = [
+    &[("features", 64), ("allowance", 64)],
+    &[
+        ("row", 64),
+        ("w0", 64),
+        ("w1", 64),
+        ("w2", 64),
+        ("w3", 64),
+        ("allowance", 64),
+    ],
+    &[("wr", 64)],
+    &[],
+    &[("on", 64)],
+    &[
+        ("stream", 32),
+        ("substream", 32),
+        ("address", 64),
+        ("how", 64),
+        ("memattr", 64),
+        ("sh", 64),
+        ("hints", 64),
+    ],
+    &[],
+];
+
 /// The returned number and the answer's words.
 #[derive(Clone, Copy, Debug, PartialEq, Eq)]
 pub struct Reply {
@@ -67,6 +94,65 @@ impl Call<'_> {
             Call::Enable { .. } => 4,
             Call::Translate(_) => 5,
             Call::State => 6,
+        }
+    }
+
+    /// The numbers passed, in the order of `NUMBERS`.
+    pub fn numbers(&self) -> Vec<u64> {
+        match *self {
+            Call::Run {
+                features,
+                allowance,
+                ..
+            } => vec![features, allowance],
+            Call::Fill {
+                row,
+                words: [w0, w1, w2, w3],
+                allowance,
+            } => vec![row, w0, w1, w2, w3, allowance],
+            Call::Doorbell { wr } => vec![wr],
+            Call::Enable { on } => vec![on],
+            Call::Translate(asked) => vec![
+                asked.stream.into(),
+                asked.substream.into(),
+                asked.address,
+                asked.how,
+                asked.memattr,
+                asked.sh,
+                asked.hints,
+            ],
+            Call::Acknowledge | Call::State => vec![],
+        }
+    }
+
+    /// The same call with other numbers, as many as it is passed.
+    pub fn passing(self, numbers: &[u64]) -> Self {
+        match (self, numbers) {
+            (Call::Run { queue, .. }, &[features, allowance]) => Call::Run {
+                queue,
+                features,
+                allowance,
+            },
+            (Call::Fill { .. }, &[row, w0, w1, w2, w3, allowance]) => Call::Fill {
+                row,
+                words: [w0, w1, w2, w3],
+                allowance,
+            },
+            (Call::Doorbell { .. }, &[wr]) => Call::Doorbell { wr },
+            (Call::Enable { .. }, &[on]) => Call::Enable { on },
+            (Call::Translate(_), &[stream, substream, address, how, memattr, sh, hints]) => {
+                Call::Translate(Asked {
+                    stream: stream as u32,
+                    substream: substream as u32,
+                    address,
+                    how,
+                    memattr,
+                    sh,
+                    hints,
+                })
+            }
+            (call, &[]) => call,
+            _ => panic!("a call of other numbers"),
         }
     }
 }

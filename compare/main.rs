@@ -60,6 +60,7 @@ fn main() -> ExitCode {
     watchdog::start(seed);
     let mut checker = Checker::new(seed);
     phases::cases::cases(&mut checker);
+    phases::limits::limits(&mut checker);
     phases::commands::sweeps(&mut checker);
     phases::formats::sweeps(&mut checker);
     phases::controls::sweeps(&mut checker);

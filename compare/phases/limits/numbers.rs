@@ -1,0 +1,149 @@
+//! Every number that a call is passed, in its place and bit by bit.
+//!
+//! This is what pins the order of the C interface's parameters. A contract goes
+//! by their names and says nothing of their order, so that two could change
+//! places and all would still prove. Here the numbers of one call differ, and
+//! each matters: whatever takes the place of another changes what comes of the
+//! call.
+
+use super::{asked, bytes, chain, first, second, table, waiting, ALL, AS_IT_COMES};
+use super::{ASID, OUTPUT, PAGE, STAGE1_PAYLOAD, STREAM, SUBSTREAM, VMID, WRITE_BACK};
+use crate::call::{Call, NUMBERS};
+use crate::checker::Checker;
+use crate::generate::images::with_rows;
+use crate::generate::rows::{cd, cd_table, ste, ste_block, Reach, Words};
+use crate::limits::LOG2SIZE;
+use crate::model::control::Control;
+
+pub fn sweeps(checker: &mut Checker) {
+    checker.phase("limits: every bit of every number passed");
+    transactions(checker);
+    fills(checker);
+    runs(checker);
+    controls(checker);
+}
+
+/// The call as it is, then with each number's bits changed one at a time, and
+/// with each number at its least and at its largest.
+fn sweep(checker: &mut Checker, kept: &[u64], call: Call) {
+    let numbers = call.numbers();
+    checker.call(&mut kept.to_vec(), call);
+    for (place, &(_, bits)) in NUMBERS[call.index()].iter().enumerate() {
+        let flipped = (0..bits).map(|bit| numbers[place] ^ 1 << bit);
+        for number in flipped.chain([0, u64::MAX >> (64 - bits)]) {
+            let mut others = numbers.clone();
+            others[place] = number;
+            checker.call(&mut kept.to_vec(), call.passing(&others));
+        }
+    }
+}
+
+/// Config 4 lets address, how and attributes through; with stages StreamID,
+/// SubstreamID and address decide which rows answer, and stage 2 keeps hints.
+fn transactions(checker: &mut Checker) {
+    for config in [4, 5, 6, 7] {
+        let kept = with_rows(waiting(0, 0), &chain(config));
+        sweep(checker, &kept, Call::Translate(asked()));
+    }
+}
+
+/// Row 2 of five is to be filled; 3 is empty too, the others are in use.
+fn fills(checker: &mut Checker) {
+    let empty = [0; 4];
+    let kept = with_rows(waiting(0, 0), &table(5, &[(2, empty), (3, empty)]));
+    let last = second(PAGE);
+    let samples: [Words; 8] = [
+        first().page(OUTPUT, STAGE1_PAYLOAD),
+        first().table(),
+        last.page(OUTPUT, WRITE_BACK),
+        last.table(),
+        ste(STREAM, VMID, 7, AS_IT_COMES),
+        ste_block(STREAM, 6),
+        cd(STREAM, SUBSTREAM, ASID),
+        cd_table(STREAM),
+    ];
+    for words in samples {
+        for allowance in [0, 4] {
+            let row = 2;
+            sweep(
+                checker,
+                &kept,
+                Call::Fill {
+                    row,
+                    words,
+                    allowance,
+                },
+            );
+        }
+    }
+}
+
+/// A row and a command for each feature: 13 and 28 want one, and 11 and 10 have
+/// an ASID and a VMID of more than eight bits.
+fn runs(checker: &mut Checker) {
+    let (wide_asid, wide_vmid) = (0x100 | ASID, 0x200 | VMID);
+    let of = |vmid, asid| {
+        let reach = Reach {
+            vmid,
+            asid,
+            ..first()
+        };
+        reach.page(OUTPUT, STAGE1_PAYLOAD)
+    };
+    let rows = [
+        of(VMID, ASID),
+        of(0, wide_asid),
+        of(wide_vmid, ASID),
+        second(PAGE).page(OUTPUT, WRITE_BACK),
+    ];
+    let queue = bytes(&[
+        (0x1046, 0),
+        (0x11 | wide_asid << 48, 0),
+        (0x10 | wide_vmid << 32, 0),
+        (0x13, PAGE),
+        (0x28 | VMID << 32, 0),
+        (0x1046, 0),
+        (0x30, 0),
+        (0x46, 0),
+    ]);
+    let kept = with_rows(waiting(3, 8), &rows);
+    for features in [0, 0b0101, 0b0010, 0b1011, ALL] {
+        for allowance in [0, 3, 6, u64::MAX] {
+            sweep(
+                checker,
+                &kept,
+                Call::Run {
+                    queue: &queue,
+                    features,
+                    allowance,
+                },
+            );
+        }
+    }
+}
+
+fn controls(checker: &mut Checker) {
+    for (log2size, rd, wr, new) in [
+        (0, 0, 0, 1),
+        (2, 5, 6, 7),
+        (2, 6, 6, 2),
+        (LOG2SIZE, 3, 5, 7),
+    ] {
+        let control = Control {
+            rd,
+            ..waiting(log2size, wr)
+        };
+        let kept = with_rows(control, &[[0; 4]]);
+        sweep(checker, &kept, Call::Doorbell { wr: new });
+    }
+    for enabled in [false, true] {
+        let control = Control {
+            enabled,
+            ..waiting(0, 0)
+        };
+        let kept = with_rows(control, &[[0; 4]]);
+        for on in [0, 1, 1 << 63] {
+            sweep(checker, &kept, Call::Enable { on });
+        }
+    }
+}
