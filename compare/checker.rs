@@ -9,20 +9,24 @@ use crate::report::{stop, Scene};
 use crate::tally::Tally;
 use crate::unit;
 use crate::watchdog;
+use crate::wrong::Wrong;
 
 pub struct Checker {
     seed: u64,
     phase: &'static str,
     garbage: Random,
+    /// A wrong unit in the unit's place.
+    wrong: Option<Wrong>,
     pub tally: Tally,
 }
 
 impl Checker {
-    pub fn new(seed: u64) -> Checker {
+    pub fn new(seed: u64, wrong: Option<Wrong>) -> Checker {
         Checker {
             seed,
             phase: "",
             garbage: Random::new(!seed),
+            wrong,
             tally: Tally::default(),
         }
     }
@@ -45,7 +49,7 @@ impl Checker {
         let mut lent = Lent::new(kept, &mut self.garbage);
         let dirt: [u64; 8] = std::array::from_fn(|_| self.garbage.next());
         let mut answer = Lent::new(&dirt, &mut self.garbage);
-        let (number, queue_kept) = on_unit(call, &mut lent, &mut answer);
+        let (number, queue_kept) = on_unit(call, &mut lent, &mut answer, &self.wrong);
         watchdog::returned();
         let theirs = Reply {
             number,
@@ -103,7 +107,11 @@ impl Checker {
 
 /// The unit's number, and whether it left the queue alone. A run is lent a copy
 /// of the queue, for the model has to read it as it was.
-fn on_unit(call: Call, kept: &mut Lent, answer: &mut Lent) -> (u64, bool) {
+fn on_unit(call: Call, kept: &mut Lent, answer: &mut Lent, wrong: &Option<Wrong>) -> (u64, bool) {
+    let perform = |call, kept: &mut Lent, answer: &mut Lent| match wrong {
+        None => unit::perform(call, kept, answer),
+        Some(wrong) => wrong.perform(call, kept, answer),
+    };
     match call {
         Call::Run {
             queue,
@@ -111,7 +119,7 @@ fn on_unit(call: Call, kept: &mut Lent, answer: &mut Lent) -> (u64, bool) {
             allowance,
         } => {
             let copy = queue.to_vec();
-            let number = unit::perform(
+            let number = perform(
                 Call::Run {
                     queue: &copy,
                     features,
@@ -122,6 +130,6 @@ fn on_unit(call: Call, kept: &mut Lent, answer: &mut Lent) -> (u64, bool) {
             );
             (number, copy == queue)
         }
-        _ => (unit::perform(call, kept, answer), true),
+        _ => (perform(call, kept, answer), true),
     }
 }

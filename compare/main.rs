@@ -14,9 +14,11 @@
 //! the same seed repeats the same calls. It exits 0 if all calls agreed and each
 //! kind of call, end, refusal and outcome occurred; 1 at the first difference,
 //! after printing what is needed to repeat it, or if the unit doesn't return;
-//! 2 if a kind never occurred or the arguments make no sense. Built with
-//! `--cfg faulty` the model has a fault in one scope (model/scope.rs), and a run
-//! has to exit 1.
+//! 2 if a kind never occurred or the arguments make no sense.
+//!
+//! `compare.out wrong NAME` compares a wrong unit (wrong.rs) instead and has to
+//! exit 1; `compare.out wrong` does so for all of them and exits 0 if each was
+//! caught.
 
 mod answers;
 mod call;
@@ -33,32 +35,46 @@ mod report;
 mod tally;
 mod unit;
 mod watchdog;
+mod wrong;
 
 use checker::Checker;
 use std::process::ExitCode;
+use wrong::Wrong;
 
 const DEFAULT_SEED: u64 = 0x7A61_6876_656E_6E6F;
 
-fn seed() -> Option<u64> {
-    let mut arguments = std::env::args().skip(1);
-    let seed = match arguments.next() {
-        None => DEFAULT_SEED,
-        Some(text) => match text.strip_prefix("0x") {
-            Some(digits) => u64::from_str_radix(digits, 16).ok()?,
-            None => text.parse().ok()?,
-        },
-    };
-    arguments.next().is_none().then_some(seed)
+fn number(text: &str) -> Option<u64> {
+    match text.strip_prefix("0x") {
+        Some(digits) => u64::from_str_radix(digits, 16).ok(),
+        None => text.parse().ok(),
+    }
 }
 
 fn main() -> ExitCode {
-    let Some(seed) = seed() else {
-        eprintln!("usage: compare [seed]");
+    let arguments: Vec<String> = std::env::args().skip(1).collect();
+    let arguments: Vec<&str> = arguments.iter().map(String::as_str).collect();
+    if arguments == ["wrong"] {
+        return ExitCode::from(u8::from(!wrong::all_caught()));
+    }
+    let named = |name: &str| wrong::all().into_iter().find(|wrong| wrong.name == name);
+    let asked = match arguments[..] {
+        [] => Some((DEFAULT_SEED, None)),
+        ["wrong", name] => named(name).map(|wrong| (DEFAULT_SEED, Some(wrong))),
+        [text] => number(text).map(|seed| (seed, None)),
+        _ => None,
+    };
+    let Some((seed, wrong)) = asked else {
+        eprintln!("usage: compare [seed] | compare wrong [name]");
         return ExitCode::from(2);
     };
+    compare(seed, wrong)
+}
+
+/// Every phase on the unit, or on a wrong one in its place.
+fn compare(seed: u64, wrong: Option<Wrong>) -> ExitCode {
     println!("seed {seed:#x}");
     watchdog::start(seed);
-    let mut checker = Checker::new(seed);
+    let mut checker = Checker::new(seed, wrong);
     phases::cases::cases(&mut checker);
     phases::limits::limits(&mut checker);
     phases::commands::sweeps(&mut checker);

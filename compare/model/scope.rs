@@ -90,9 +90,6 @@ fn streams(row: &Row, stream: u64, low_bits: u64, leaf: bool) -> bool {
     let ignored = match (row.kind(), row.last_level()) {
         (Kind::Cd, _) | (Kind::Ste, true) => low_bits,
         (Kind::Ste, false) if leaf => return false,
-        // The deliberate fault: code 04 looks at its own block alone, and so
-        // loses a row whose block is wider than that.
-        (Kind::Ste, false) if cfg!(faulty) && low_bits > 0 => low_bits,
         // Two aligned blocks meet if they're equal above the wider one's bits.
         (Kind::Ste, false) => low_bits.max(row.span()),
         _ => return false,

@@ -4,7 +4,7 @@
 //! by their names and says nothing of their order, so that two could change
 //! places and all would still prove. Here the numbers of one call differ, and
 //! each matters: whatever takes the place of another changes what comes of the
-//! call.
+//! call. The gate tries it with each two of them exchanged (wrong.rs).
 
 use super::{asked, bytes, chain, first, second, table, waiting, ALL, AS_IT_COMES};
 use super::{ASID, OUTPUT, PAGE, STAGE1_PAYLOAD, STREAM, SUBSTREAM, VMID, WRITE_BACK};

@@ -1,0 +1,191 @@
+//! Wrong units: the unit with one fault put around it. The comparison has to
+//! catch each of them, and the gate sees to it.
+
+use crate::call::{Call, NAMES, NUMBERS};
+use crate::generate::random::Random;
+use crate::lent::Lent;
+use crate::limits::{words, ROWS, SLOTS};
+use crate::unit;
+use std::process::Command;
+
+#[derive(Clone, Copy)]
+enum Fault {
+    /// Two numbers of a call have changed places.
+    Exchanged(usize, usize, usize),
+    /// A number's top bit is lost.
+    Narrow(usize, usize),
+    /// A number is taken for 0 if its top bit is set, which nobody looks at.
+    Shy(usize, usize),
+    /// A word of a call's answer, after refusal 3 or else after 0, never gets to
+    /// the limit.
+    Short(usize, u64, usize, u64),
+    /// A call doesn't see what is wrong with the last row of the largest table.
+    Unchecked(usize),
+    /// The last row of the largest table answers no transaction.
+    Unseen,
+    /// A run leaves that row where it is.
+    Unremoved,
+    /// Commands are read with bits of their high word lost.
+    Read(u64, u64),
+}
+
+pub struct Wrong {
+    pub name: String,
+    fault: Fault,
+}
+
+const RUN: usize = 0;
+const TRANSLATE: usize = 5;
+const STATE: usize = 6;
+
+/// Every wrong unit.
+pub fn all() -> Vec<Wrong> {
+    let mut all = Vec::new();
+    let mut add = |name: String, fault| all.push(Wrong { name, fault });
+    for (call, numbers) in NUMBERS.iter().enumerate() {
+        for (place, (name, _)) in numbers.iter().enumerate() {
+            for (other, (second, _)) in numbers.iter().enumerate().skip(place + 1) {
+                let what = format!("{}: {name} and {second} exchanged", NAMES[call]);
+                add(what, Fault::Exchanged(call, place, other));
+            }
+            let what = format!("{}: the top bit of {name}", NAMES[call]);
+            let unread = matches!(*name, "features" | "how");
+            let fault = if unread { Fault::Shy } else { Fault::Narrow };
+            add(what, fault(call, place));
+        }
+    }
+    for (call, number, word, limit, what) in [
+        (RUN, 0, 1, SLOTS, "commands consumed"),
+        (RUN, 0, 2, SLOTS + ROWS, "stores"),
+        (RUN, 0, 3, ROWS, "rows removed"),
+        (RUN, 0, 4, SLOTS, "CMD_SYNCs"),
+        (STATE, 0, 5, ROWS, "used rows"),
+        (STATE, 3, 0, ROWS - 1, "the row that is refused"),
+    ] {
+        let fault = Fault::Short(call, number, word, limit);
+        add(format!("{what} below {limit}"), fault);
+    }
+    for (call, name) in NAMES.iter().enumerate() {
+        let what = format!("{name}: the last row ill formed");
+        add(what, Fault::Unchecked(call));
+    }
+    add("the last row answers nothing".into(), Fault::Unseen);
+    add("the last row is not removed".into(), Fault::Unremoved);
+    add("04: Range of four bits".into(), Fault::Read(0x04, 1 << 4));
+    add("03: Leaf not read".into(), Fault::Read(0x03, 1));
+    all
+}
+
+/// Runs this program on each wrong unit; whether all were caught.
+pub fn all_caught() -> bool {
+    let all = all();
+    let missed: Vec<&Wrong> = all.iter().filter(|wrong| !caught(wrong)).collect();
+    for wrong in &missed {
+        println!("not caught: {}", wrong.name);
+    }
+    println!("{} wrong units, {} not caught", all.len(), missed.len());
+    missed.is_empty() && !all.is_empty()
+}
+
+/// Whether a run on the wrong unit ends with a difference.
+fn caught(wrong: &Wrong) -> bool {
+    let program = std::env::current_exe().expect("the program's own file");
+    let ran = Command::new(program).args(["wrong", &wrong.name]).output();
+    let ran = ran.expect("a run of the program");
+    let told = String::from_utf8_lossy(&ran.stdout);
+    ran.status.code() == Some(1) && told.contains("unit and model differ")
+}
+
+impl Wrong {
+    /// Makes the call as `unit::perform` does, with the fault.
+    pub fn perform(&self, call: Call, kept: &mut Lent, answer: &mut Lent) -> u64 {
+        let before = kept.inner().to_vec();
+        let number = match (self.fault, call) {
+            (
+                Fault::Read(code, lost),
+                Call::Run {
+                    queue,
+                    features,
+                    allowance,
+                },
+            ) => {
+                let queue = &misread(queue, code, lost);
+                let call = Call::Run {
+                    queue,
+                    features,
+                    allowance,
+                };
+                unit::perform(call, kept, answer)
+            }
+            _ => unit::perform(self.passed(call), kept, answer),
+        };
+        self.after(call, &before, number, kept, answer)
+    }
+
+    /// The call as it gets to the unit.
+    fn passed<'a>(&self, call: Call<'a>) -> Call<'a> {
+        let mut numbers = call.numbers();
+        let top = |place: usize| 1 << (NUMBERS[call.index()][place].1 - 1);
+        match self.fault {
+            Fault::Exchanged(of, one, other) if of == call.index() => numbers.swap(one, other),
+            Fault::Narrow(of, place) if of == call.index() => numbers[place] &= !top(place),
+            Fault::Shy(of, place) if of == call.index() && numbers[place] & top(place) != 0 => {
+                numbers[place] = 0
+            }
+            _ => (),
+        }
+        call.passing(&numbers)
+    }
+
+    /// What comes back from the unit, once it was called.
+    fn after(
+        &self,
+        call: Call,
+        before: &[u64],
+        number: u64,
+        kept: &mut Lent,
+        answer: &mut Lent,
+    ) -> u64 {
+        let last = words(ROWS - 1);
+        let row = answer.inner()[0];
+        match self.fault {
+            Fault::Short(of, told, word, limit) if of == call.index() && told == number => {
+                let short = answer.inner()[word].min(limit - 1);
+                answer.inner_mut()[word] = short;
+            }
+            Fault::Unchecked(of) if of == call.index() && number == 3 && row == ROWS - 1 => {
+                return without_last(call, kept, answer);
+            }
+            Fault::Unseen if call.index() == TRANSLATE && number == 0 && before.len() > last => {
+                return without_last(call, kept, answer);
+            }
+            Fault::Unremoved if call.index() == RUN && number == 0 && before.len() > last => {
+                kept.inner_mut()[last] = before[last];
+            }
+            _ => (),
+        }
+        number
+    }
+}
+
+/// The call on a memory whose last row is empty; its words come back as they were.
+fn without_last(call: Call, kept: &mut Lent, answer: &mut Lent) -> u64 {
+    let last = words(ROWS - 1);
+    let mut copy = kept.inner().to_vec();
+    copy[last] = 0;
+    let mut copy = Lent::new(&copy, &mut Random::new(0));
+    let number = unit::perform(call, &mut copy, answer);
+    kept.inner_mut()[..last].copy_from_slice(&copy.inner()[..last]);
+    number
+}
+
+/// The queue with bits of the high word lost in each command of a code.
+fn misread(queue: &[u8], code: u64, lost: u64) -> Vec<u8> {
+    let mut queue = queue.to_vec();
+    for slot in queue.chunks_exact_mut(16) {
+        if u64::from(slot[0]) == code {
+            slot[8] &= !(lost as u8);
+        }
+    }
+    queue
+}
