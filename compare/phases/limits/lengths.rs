@@ -95,6 +95,7 @@ fn sizes(checker: &mut Checker) {
         checker.call(&mut kept, Call::State);
     };
     for log2size in 0..32 {
+        // An index has 20 bits, and one past the ring has to fit.
         let slots = 1u64 << log2size.min(18);
         let ring = 2 * slots;
         for rd in [0, 1, slots - 1, slots, ring - 1, ring] {

@@ -41,7 +41,7 @@ const AS_IT_COMES: u64 = 1 << 5;
 const WRITE_BACK: u64 = 15;
 const STAGE1_PAYLOAD: u64 = WRITE_BACK | 0o33 << 6;
 
-/// A row that no transaction and no command of these phases is about.
+/// The stream of rows that no transaction and no command is about.
 const BYSTANDER: u64 = 0xFFFF_0000;
 
 fn first() -> Reach {

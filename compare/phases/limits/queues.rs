@@ -39,7 +39,7 @@ fn run(checker: &mut Checker, kept: &mut [u64], queue: &[u8], allowance: u64) {
 }
 
 /// A command of each code, CMD_SYNC with each CS, and one that is illegal.
-fn kinds() -> [(u64, u64); 16] {
+fn kinds() -> [(u64, u64); 17] {
     let (stream, vmid, asid) = (STREAM << 32, VMID << 32, ASID << 48);
     [
         (0x1046, 0),
@@ -56,6 +56,7 @@ fn kinds() -> [(u64, u64); 16] {
         (0x12 | vmid | asid, PAGE),
         (0x13 | vmid, PAGE),
         (0x28 | vmid, 0),
+        (0x2A | vmid, PAGE),
         (0x30, 0),
         (0, 0),
     ]
