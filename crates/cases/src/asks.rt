@@ -2,7 +2,6 @@
 use crate::show;
 use crate::show::say;
 use attributes::Attributes;
-use commands::Features;
 use control_calls::AcknowledgeAnswer;
 use control_calls::DoorbellAnswer;
 use control_calls::EnableAnswer;
@@ -34,7 +33,7 @@ fn checked(kept: &[u64]) {
 
 fn stores(verb: u8, kept: &mut [u64], queue: &[u8], w: [u64; 8]) {
     match verb {
-        b'r' => show::ran(runs::run(&mut *kept, queue, features(w[0]), w[1])),
+        b'r' => show::ran(runs::run(&mut *kept, queue, commands::features_of(w[0]), w[1])),
         b'f' => show::filled(fills::fill(&mut *kept, w[0] as usize, row(w), w[5])),
         b'd' => rung(control_calls::doorbell(&mut *kept, w[0])),
         b'a' => acknowledged(control_calls::acknowledge(&mut *kept)),
@@ -47,15 +46,6 @@ fn bit(w: u64, i: u64) -> bool {
         return words::part(w, i, i) == 1;
     }
     false
-}
-
-fn features(w: u64) -> Features {
-    Features {
-        s1p: bit(w, 0),
-        s2p: bit(w, 1),
-        asid16: bit(w, 2),
-        vmid16: bit(w, 3),
-    }
 }
 
 fn row(w: [u64; 8]) -> Row {

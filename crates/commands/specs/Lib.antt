@@ -1,2 +1,3 @@
+pub mod FeatureBits
 pub mod Formats
 pub mod Decoding

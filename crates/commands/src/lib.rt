@@ -1,10 +1,12 @@
 // Commands: which are legal, and what they are.
 mod decoding;
+mod feature_bits;
 mod formats;
 
 pub use decoding::decode;
 pub use decoding::decode_at;
 pub use decoding::syncs_of;
+pub use feature_bits::features_of;
 
 // What the unit is told to have.
 pub struct Features {

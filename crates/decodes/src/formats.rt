@@ -1,13 +1,19 @@
 // Document 01, Commands and their scopes: which codes are known, which bits of each are Reserved, which features it needs.
+use crate::features::ALL;
+use crate::features::ASID16;
+use crate::features::S1P;
+use crate::features::S2P;
+use crate::features::VMID16;
 use crate::show::code;
 use crate::show::number;
 use crate::show::say;
 use commands::Decoded;
 use commands::Features;
+use commands::features_of;
 ghost use Prim.Native.Nat.{_<_, _≤_};
 
 pub fn all() {
-    let yes = features(true, true, true, true);
+    let yes = features_of(ALL);
     say(b"legal codes:");
     known_codes(yes);
     say(b"\n");
@@ -90,28 +96,19 @@ fn reserved(f: Features, c: u64) {
     say(b"\n");
 }
 
-fn features(s1p: bool, s2p: bool, asid16: bool, vmid16: bool) -> Features {
-    Features {
-        s1p,
-        s2p,
-        asid16,
-        vmid16,
-    }
-}
-
 fn one_code(c: u64) {
-    let no_s2p = features(true, false, true, true);
+    let no_s2p = features_of(ALL - S2P);
     code(c);
     say(b": without S1P");
-    verdict(features(false, true, true, true), c);
+    verdict(features_of(ALL - S1P), c);
     say(b", S2P");
     verdict(no_s2p, c);
     say(b", ASID16");
-    verdict(features(true, true, false, true), c);
+    verdict(features_of(ALL - ASID16), c);
     say(b", VMID16");
-    verdict(features(true, true, true, false), c);
+    verdict(features_of(ALL - VMID16), c);
     say(b"\n  Reserved:");
-    reserved(features(true, true, true, true), c);
+    reserved(features_of(ALL), c);
     if is_legal(no_s2p, c, 0) {
         say(b"  Reserved without S2P:");
         reserved(no_s2p, c);
@@ -136,7 +133,7 @@ fn code_by_code() {
 }
 
 fn sync() {
-    let none = features(false, false, false, false);
+    let none = features_of(0);
     say(b"46 with CS 0:");
     verdict(none, 0x46);
     say(b", CS 1:");

@@ -1,4 +1,8 @@
 // The commands that Linux guests sent, from data/: how many of each code are legal, and how many are not.
+use crate::features::ASID16;
+use crate::features::S1P;
+use crate::features::S2P;
+use crate::features::VMID16;
 use crate::show::code;
 use crate::show::number;
 use crate::show::say;
@@ -11,18 +15,8 @@ ghost use lib.ListN.{length};
 const CHUNKS: usize = 64;
 
 pub fn all() {
-    let stage1 = Features {
-        s1p: true,
-        s2p: false,
-        asid16: true,
-        vmid16: false,
-    };
-    let stage2 = Features {
-        s1p: false,
-        s2p: true,
-        asid16: false,
-        vmid16: true,
-    };
+    let stage1 = commands::features_of(S1P + ASID16);
+    let stage2 = commands::features_of(S2P + VMID16);
     say(b"linux-6.12-no-ril\n");
     guest(b"linux-6.12-no-ril.bin", stage1);
     say(b"linux-6.12\n");

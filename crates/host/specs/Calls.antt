@@ -6,6 +6,7 @@ use Prim.Native.Nat.{ℕ}
 use lib.Dec.{eqb}
 use Rattle.words.specs.Outcomes.{Outcome}
 use Rattle.rows.specs.declared.Row.{Row}
+use Rattle.commands.specs.FeatureBits.{featuresOf}
 use Rattle.runs.specs.Call as runs
 use Rattle.fills.specs.Fills as fills
 use Rattle.control_calls.specs.Calls as control-calls
@@ -13,7 +14,6 @@ use Rattle.transactions.specs.declared.Transaction.{Transaction}
 use Rattle.transactions.specs.Call as transactions
 use Rattle.states.specs.States as states
 use Rattle.replies.specs.declared.Reply.{Reply}
-use Rattle.replies.specs.Asked.{featuresOf}
 use Rattle.replies.specs.Replies.{runReply, fillReply, doorbellReply, acknowledgeReply, enableReply, translateReply, stateReply}
 use Rattle.host.specs.Told.{telling}
 

@@ -26,7 +26,8 @@ pub extern "C" fn tahvenno_run(
 ) -> u64
     ensures { λ r. ⌜ Leaves (run features allowance (now (queue .entry)) (now (kept .entry))) (now (kept .exit)) (now (answer .exit)) r ⌝ }
 {
-    let a = runs::run(&mut *kept, queue, replies::features_of(features), allowance);
+    let f = commands::features_of(features);
+    let a = runs::run(&mut *kept, queue, f, allowance);
     tell(&mut *answer, replies::run_reply(a))
 }
 

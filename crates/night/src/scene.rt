@@ -22,13 +22,9 @@ pub fn queue() -> [u8; 16] {
     [0x12, 0, 0, 0, 5, 0, 7, 0, 0, 0, 0, 0x80, 0, 0, 0, 0]
 }
 
+// S1P, S2P, ASID16 and VMID16.
 pub fn features() -> Features {
-    Features {
-        s1p: true,
-        s2p: true,
-        asid16: true,
-        vmid16: true,
-    }
+    commands::features_of(0xf)
 }
 
 pub fn same(a: &[u64; 9], b: &[u64; 9]) -> bool {

@@ -5,16 +5,11 @@ use mathlib.Core.Bool.{Bool}
 use lib.Dec.{eqb}
 use Rattle.words.specs.Parts.{part}
 use Rattle.attributes.specs.declared.Attributes.{Attributes}
-use Rattle.commands.specs.declared.Features.{Features}
 use Rattle.transactions.specs.declared.Transaction.{Transaction}
 
 -- bit i is 1
 abbrev pub flag : ℕ → ℕ → Bool
 flag i w = eqb (part i i w) 1
-
--- bit 0 S1P, 1 S2P, 2 ASID16, 3 VMID16
-unfoldable pub featuresOf : ℕ → Features
-featuresOf w = record { s1p = flag 0 w; s2p = flag 1 w; asid16 = flag 2 w; vmid16 = flag 3 w }
 
 -- how: bit 0 write, 1 instruction, 2 privileged
 unfoldable pub transactionOf : ℕ → ℕ → ℕ → ℕ → Attributes → Transaction

@@ -1,27 +1,15 @@
 // What a C caller asks: flags as bits of a word, of which the others are not looked at.
 use attributes::Attributes;
-use commands::Features;
 use transactions::Transaction;
 ghost use mathlib.Core.Path.{_≡_};
 ghost use Prim.Native.Nat.{_<_};
-ghost use Rattle.replies.specs.Asked.{flag, featuresOf, transactionOf};
+ghost use Rattle.replies.specs.Asked.{flag, transactionOf};
 
 fn bit(w: u64, i: u64) -> bool
     requires { ⌜ i < 63 ⌝ }
     ensures { λ r. ⌜ r ≡ flag i w ⌝ }
 {
     words::part(w, i, i) == 1
-}
-
-pub fn features_of(bits: u64) -> Features
-    ensures { λ r. ⌜ r ≡ featuresOf bits ⌝ }
-{
-    Features {
-        s1p: bit(bits, 0),
-        s2p: bit(bits, 1),
-        asid16: bit(bits, 2),
-        vmid16: bit(bits, 3),
-    }
 }
 
 pub fn transaction_of(

@@ -9,7 +9,6 @@ pub use answers::fill_reply;
 pub use answers::run_reply;
 pub use answers::state_reply;
 pub use answers::translate_reply;
-pub use asked::features_of;
 pub use asked::transaction_of;
 
 // The number that a call returns, 0 or its refusal's, and the eight words of its answer.

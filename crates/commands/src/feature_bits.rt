@@ -1,0 +1,15 @@
+// The features as bits of one word.
+use crate::Features;
+ghost use mathlib.Core.Path.{_≡_};
+ghost use Rattle.commands.specs.FeatureBits.{featuresOf};
+
+pub fn features_of(bits: u64) -> Features
+    ensures { λ r. ⌜ r ≡ featuresOf bits ⌝ }
+{
+    Features {
+        s1p: words::part(bits, 0, 0) == 1,
+        s2p: words::part(bits, 1, 1) == 1,
+        asid16: words::part(bits, 2, 2) == 1,
+        vmid16: words::part(bits, 3, 3) == 1,
+    }
+}
