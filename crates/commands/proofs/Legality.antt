@@ -6,29 +6,28 @@ use Prim.Native.Nat.{ℕ, _<_}
 use native.Mathlib.Omega.{arith}
 use Rattle.words.specs.Choice.{pick}
 use Rattle.words.specs.Parts.{isSet, joined}
-use Rattle.words.specs.Ranges.{named, setOnly}
-use Rattle.words.proofs.Truth.{left, right, and-true, clash}
+use Rattle.words.specs.Ranges.{named}
+use Rattle.words.proofs.Truth.{left, right, and-true}
 use Rattle.words.proofs.Masks.{reads, read-back}
 use Rattle.commands.specs.declared.Features.{Features}
-use Rattle.commands.specs.declared.Decoded.{Decoded}
 use Rattle.commands.specs.declared.Decoded.the-variants.{Legal, Illegal}
 use Rattle.commands.specs.Formats.{namedAt}
 use Rattle.commands.specs.Decoding.{codeOf, placeIn, knownCode, featurePresent, clean, parameterGood, isLegal, commandOf, decode}
 
 -- Reserved bits, one by one: each of the 128 bits that is set is named
-pub clean-means : (s2p : Bool) (k c : ℕ) → clean s2p k c ≡ true → (i : ℕ) → i < 128 → isSet i c ≡ true → named (namedAt s2p k) i ≡ true
+pub clean-means : (f : Features) (k c : ℕ) → clean f k c ≡ true → (i : ℕ) → i < 128 → isSet i c ≡ true → named (namedAt f k) i ≡ true
 unfolding clean
-clean-means s2p k c e = reads (named (namedAt s2p k)) 128 c e
+clean-means f k c e = reads (named (namedAt f k)) 128 c e
 
-pub means-clean : (s2p : Bool) (k c : ℕ) → ((i : ℕ) → i < 128 → isSet i c ≡ true → named (namedAt s2p k) i ≡ true) → clean s2p k c ≡ true
+pub means-clean : (f : Features) (k c : ℕ) → ((i : ℕ) → i < 128 → isSet i c ≡ true → named (namedAt f k) i ≡ true) → clean f k c ≡ true
 unfolding clean
-means-clean s2p k c f = read-back (named (namedAt s2p k)) 128 c f
+means-clean f k c g = read-back (named (namedAt f k)) 128 c g
 
 -- the four tests
 pub record Tests (f : Features) (c : ℕ) : Type 0 where
   pub known : knownCode c ≡ true
   pub present : featurePresent f (codeOf c) ≡ true
-  pub spotless : clean (f .s2p) (placeIn c) c ≡ true
+  pub spotless : clean f (placeIn c) c ≡ true
   pub sound : parameterGood (codeOf c) c ≡ true
 
 module _ (f : Features) (c : ℕ) where
@@ -37,7 +36,7 @@ module _ (f : Features) (c : ℕ) where
   legal-means e =
       let a = knownCode c in
       let b = featurePresent f (codeOf c) in
-      let d = clean (f .s2p) (placeIn c) c in
+      let d = clean f (placeIn c) c in
       let abd = left (a && b && d) (parameterGood (codeOf c) c) e in
       let ab = left (a && b) d abd in
       record {

@@ -1,3 +1,4 @@
 pub mod Masks
+pub mod Codes
 pub mod Legality
 pub mod OtherCommands

@@ -1,85 +1,73 @@
 -- The masks of the bits that each code names, by one computed test over the table, with S2P and without.
 -- Assumes nothing.
 use mathlib.Core.Path.{_≡_, sym, ap₂, _∙_}
-use mathlib.Core.Bool.{Bool, true, false, _&&_}
+use mathlib.Core.Bool.{Bool, true, false, not, _&&_}
 use mathlib.Core.List.{List, [], _∷_}
-use Prim.Native.Nat.{ℕ, _+_, _-_, _*_, _^_, _≤_, _<_}
+use Prim.Native.Nat.{ℕ, _+_, _^_, _<_}
 use lib.Bits.{bitAnd}
 use lib.Dec.{eqb, leb}
 use lib.ListN.{getD}
-use borrow.Author.Tests.{leb-true}
 use Rattle.words.specs.Choice.{pick}
 use Rattle.words.specs.Parts.{isSet, joined}
-use Rattle.words.specs.Ranges.{named, all, setOnly}
+use Rattle.words.specs.Ranges.{named, all}
 use Rattle.words.proofs.Truth.{passed, left, right}
 use Rattle.words.proofs.Table.{all-at}
-use Rattle.words.proofs.Masks.{exact, masked}
+use Rattle.words.proofs.Masks.{masked}
 use Rattle.words.proofs.TwoWords.{set-only}
-use Rattle.commands.specs.Formats.{namedAt}
+use Rattle.commands.specs.declared.Features.{Features}
+use Rattle.commands.specs.Formats.{howMany, namedAt, exactly, MasksOf}
 use Rattle.commands.specs.Decoding.{clean}
 
-abbrev pub masks : List ℕ
+abbrev pub masks : List (List ℕ)
 masks =
-    0xfffffffffffffbff ∷ 0xffffffffffffffff
-    ∷ 0xfffffffffffffbff ∷ 0xffffffffffffffff
-    ∷ 0xffffffff000000ff ∷ 0x1
-    ∷ 0xffffffff000000ff ∷ 0x1f
-    ∷ 0xfffffffffffff0ff ∷ 0x1
-    ∷ 0xffffffff000000ff ∷ 0x0
-    ∷ 0xffff000000ff ∷ 0x0
-    ∷ 0xffffffff000000ff ∷ 0x0
-    ∷ 0xffffffff000000ff ∷ 0xfffffffffffff001
-    ∷ 0xffff000000ff ∷ 0xfffffffffffff001
-    ∷ 0xffff000000ff ∷ 0x0
-    ∷ 0xffff000000ff ∷ 0xffffffffff001
-    ∷ 0xff ∷ 0x0
-    ∷ 0xffffffff0fc030ff ∷ 0xffffffffffffffff
+    (0xfffffffffffffbff ∷ 0xffffffffffffffff ∷ [])
+    ∷ (0xfffffffffffffbff ∷ 0xffffffffffffffff ∷ [])
+    ∷ (0xffffffff000000ff ∷ 0x1 ∷ [])
+    ∷ (0xffffffff000000ff ∷ 0x1f ∷ [])
+    ∷ (0xfffffffffffff0ff ∷ 0x1 ∷ [])
+    ∷ (0xffffffff000000ff ∷ 0x0 ∷ [])
+    ∷ (0xffff000000ff ∷ 0x0 ∷ [])
+    ∷ (0xffffffff000000ff ∷ 0x0 ∷ [])
+    ∷ (0xffffffff000000ff ∷ 0xfffffffffffff001 ∷ [])
+    ∷ (0xffff000000ff ∷ 0xfffffffffffff001 ∷ [])
+    ∷ (0xffff000000ff ∷ 0x0 ∷ [])
+    ∷ (0xffff000000ff ∷ 0xffffffffff001 ∷ [])
+    ∷ (0xff ∷ 0x0 ∷ [])
+    ∷ (0xffffffff0fc030ff ∷ 0xffffffffffffffff ∷ [])
     ∷ []
 
-abbrev pub withS2p : List ℕ
-withS2p =
-    0 ∷ 0 ∷ 0 ∷ 0 ∷ 0 ∷ 0 ∷ 0xffff00000000 ∷ 0xffff00000000 ∷ 0xffff00000000 ∷ 0xffff00000000 ∷ 0 ∷ 0 ∷ 0 ∷ 0 ∷ []
+-- the k-th pair under the features
+abbrev pub maskAt : Features → ℕ → List ℕ
+maskAt f k =
+    pick (leb 6 k && leb k 9 && not (f .s2p))
+    (bitAnd (getD (getD masks k []) 0 0) 0xffff0000ffffffff ∷ getD (getD masks k []) 1 0 ∷ [])
+    (getD masks k [])
 
-abbrev pub lowMask : Bool → ℕ → ℕ
-lowMask s2p k = pick s2p (getD masks (2 * k) 0) (getD masks (2 * k) 0 - getD withS2p k 0)
+fits : Features → ℕ → Bool
+fits f k = exactly (named (namedAt f k)) (getD (maskAt f k) 0 0) && exactly (λ i. named (namedAt f k) (64 + i)) (getD (maskAt f k) 1 0)
 
-abbrev pub highMask : ℕ → ℕ
-highMask k = getD masks (2 * k + 1) 0
+tested : (f : Features) → all howMany (fits f) ≡ true
+unfolding fits isSet
+tested f = by-s2p (f .s1p) (f .s2p) (f .asid16) (f .vmid16)
+  where
+    by-s2p : (s1p s2p asid16 vmid16 : Bool) → all howMany (fits record { s1p = s1p; s2p = s2p; asid16 = asid16; vmid16 = vmid16 }) ≡ true
+    by-s2p s1p true asid16 vmid16 = passed tt
+    by-s2p s1p false asid16 vmid16 = passed tt
 
--- both masks of the k-th code, and that what needs S2P is part of the low one
-right-masks : Bool → ℕ → Bool
-right-masks s2p k =
-    exact (named (namedAt s2p k)) (lowMask s2p k)
-    && exact (λ i. named (namedAt s2p k) (64 + i)) (highMask k)
-    && leb (getD withS2p k 0) (getD masks (2 * k) 0)
+pub right-masks : (f : Features) (k : ℕ) → k < howMany → MasksOf (namedAt f k) (maskAt f k)
+unfolding fits
+right-masks f k h =
+    let low = exactly (named (namedAt f k)) (getD (maskAt f k) 0 0) in
+    let high = exactly (λ i. named (namedAt f k) (64 + i)) (getD (maskAt f k) 1 0) in
+    let both = all-at howMany (fits f) (tested f) k h in
+    record { low = left low high both; high = right low high both }
 
-tested : (s2p : Bool) → all 14 (right-masks s2p) ≡ true
-unfolding right-masks isSet
-tested true = passed tt
-tested false = passed tt
-
-module _ (s2p : Bool) (k : ℕ) (h : k < 14) where
-  both-masks : (exact (named (namedAt s2p k)) (lowMask s2p k) && exact (λ i. named (namedAt s2p k) (64 + i)) (highMask k)) ≡ true
-  unfolding right-masks
-  both-masks =
-      left (exact (named (namedAt s2p k)) (lowMask s2p k) && exact (λ i. named (namedAt s2p k) (64 + i)) (highMask k))
-      (leb (getD withS2p k 0) (getD masks (2 * k) 0)) (all-at 14 (right-masks s2p) (tested s2p) k h)
-
-  pub needs-within : getD withS2p k 0 ≤ getD masks (2 * k) 0
-  unfolding right-masks
-  needs-within =
-      leb-true (getD withS2p k 0) (getD masks (2 * k) 0)
-      (right (exact (named (namedAt s2p k)) (lowMask s2p k) && exact (λ i. named (namedAt s2p k) (64 + i)) (highMask k))
-      (leb (getD withS2p k 0) (getD masks (2 * k) 0)) (all-at 14 (right-masks s2p) (tested s2p) k h))
-
-  -- the code's test is the definition's
-  pub tests : (lo hi : ℕ) → lo < 2 ^ 64 → hi < 2 ^ 64
-      → (eqb (bitAnd lo (lowMask s2p k)) lo && eqb (bitAnd hi (highMask k)) hi) ≡ clean s2p k (joined lo hi)
-  unfolding clean
-  tests lo hi fit-lo fit-hi =
-      let low = exact (named (namedAt s2p k)) (lowMask s2p k) in
-      let high = exact (λ i. named (namedAt s2p k) (64 + i)) (highMask k) in
-      ap₂ _&&_
-      (masked (named (namedAt s2p k)) (lowMask s2p k) lo (left low high both-masks) fit-lo)
-      (masked (λ i. named (namedAt s2p k) (64 + i)) (highMask k) hi (right low high both-masks) fit-hi)
-      ∙ sym (set-only lo hi fit-lo (named (namedAt s2p k)))
+-- such masks test what the definition asks
+pub tests : (f : Features) (k lo hi : ℕ) (m : List ℕ) → MasksOf (namedAt f k) m → lo < 2 ^ 64 → hi < 2 ^ 64
+    → (eqb (bitAnd lo (getD m 0 0)) lo && eqb (bitAnd hi (getD m 1 0)) hi) ≡ clean f k (joined lo hi)
+unfolding clean
+tests f k lo hi m r fit-lo fit-hi =
+    ap₂ _&&_
+    (masked (named (namedAt f k)) (getD m 0 0) lo (r .low) fit-lo)
+    (masked (λ i. named (namedAt f k) (64 + i)) (getD m 1 0) hi (r .high) fit-hi)
+    ∙ sym (set-only lo hi fit-lo (named (namedAt f k)))

@@ -23,7 +23,7 @@ codeOf c = get codeBits c
 abbrev pub placeIn : ℕ → ℕ
 placeIn c = placeOf codes (codeOf c)
 
--- its code is one of the fourteen
+-- its code is one of those in the table
 unfoldable pub knownCode : ℕ → Bool
 knownCode c = ltb (placeIn c) howMany
 
@@ -35,15 +35,15 @@ featurePresent f code =
     true)
 
 -- each set bit is one that the code names
-unfoldable pub clean : Bool → ℕ → ℕ → Bool
-clean s2p k c = setOnly 128 (named (namedAt s2p k)) c
+unfoldable pub clean : Features → ℕ → ℕ → Bool
+clean f k c = setOnly 128 (named (namedAt f k)) c
 
 -- CS of 46 is not 3
 unfoldable pub parameterGood : ℕ → ℕ → Bool
 parameterGood code c = not (eqb code 0x46 && eqb (get csBits c) 3)
 
 unfoldable pub isLegal : Features → ℕ → Bool
-isLegal f c = knownCode c && featurePresent f (codeOf c) && clean (f .s2p) (placeIn c) c && parameterGood (codeOf c) c
+isLegal f c = knownCode c && featurePresent f (codeOf c) && clean f (placeIn c) c && parameterGood (codeOf c) c
 
 -- the command of a known code, with its fields as they stand
 abbrev pub isSetIn : Range → ℕ → Bool

@@ -1,11 +1,14 @@
 -- Document 01, Commands and their scopes: the codes and the bits that each names. Bits are numbered 127:0 over both words.
 -- Assumes nothing.
-use Prim.Native.Nat.{ℕ}
-use mathlib.Core.Bool.{Bool}
-use mathlib.Core.List.{List, [], _∷_, _++_}
-use lib.ListN.{getD}
+use Prim.Native.Nat.{ℕ, _+_}
+use mathlib.Core.Path.{_≡_}
+use mathlib.Core.Bool.{Bool, true, not}
+use mathlib.Core.List.{List, [], _∷_, _++_, map}
+use lib.ListN.{length, getD}
 use Rattle.words.specs.Choice.{pick}
-use Rattle.words.specs.Ranges.{Range, bits}
+use Rattle.words.specs.Parts.{isSet}
+use Rattle.words.specs.Ranges.{Range, bits, named, all}
+use Rattle.commands.specs.declared.Features.{Features}
 
 abbrev pub codeBits : Range
 codeBits = bits 7 0
@@ -38,49 +41,56 @@ pageBits = bits 127 76
 abbrev pub ipaPageBits : Range
 ipaPageBits = bits 115 76
 
--- the codes, in the paper's order
-abbrev pub codes : List ℕ
-codes = 0x01 ∷ 0x02 ∷ 0x03 ∷ 0x04 ∷ 0x05 ∷ 0x06 ∷ 0x10 ∷ 0x11 ∷ 0x12 ∷ 0x13 ∷ 0x28 ∷ 0x2A ∷ 0x30 ∷ 0x46 ∷ []
-
-abbrev pub howMany : ℕ
-howMany = 14
-
 -- without S2P the VMID is Reserved
-abbrev pub vmidWith : Bool → List Range
-vmidWith s2p = pick s2p (vmidBits ∷ []) []
+abbrev pub vmidWith : Features → List Range
+vmidWith f = pick (f .s2p) (vmidBits ∷ []) []
 
--- The bits that each code names, those not looked at among them. Every other bit is Reserved.
-abbrev pub namedParts : Bool → List (List Range)
-namedParts s2p =
+-- a code, and the bits besides its own that it names under the features, those not looked at among them
+pub data Format : Type 0 where
+  code : ℕ → (Features → List Range) → Format
+
+-- The table, a line for each code. Every bit that its line does not name is Reserved.
+abbrev pub formats : List Format
+formats =
     -- 01, 02: 9:8 and 127:11 are not looked at
-    (codeBits ∷ bits 9 8 ∷ bits 127 11 ∷ [])
-    ∷ (codeBits ∷ bits 9 8 ∷ bits 127 11 ∷ [])
-    -- 03
-    ∷ (codeBits ∷ streamBits ∷ leafBits ∷ [])
-    -- 04
-    ∷ (codeBits ∷ streamBits ∷ rangeBits ∷ [])
-    -- 05
-    ∷ (codeBits ∷ substreamBits ∷ streamBits ∷ leafBits ∷ [])
-    -- 06
-    ∷ (codeBits ∷ streamBits ∷ [])
-    -- 10
-    ∷ (codeBits ∷ vmidWith s2p)
-    -- 11
-    ∷ (codeBits ∷ vmidWith s2p ++ asidBits ∷ [])
-    -- 12
-    ∷ (codeBits ∷ vmidWith s2p ++ asidBits ∷ leafBits ∷ pageBits ∷ [])
-    -- 13
-    ∷ (codeBits ∷ vmidWith s2p ++ leafBits ∷ pageBits ∷ [])
-    -- 28
-    ∷ (codeBits ∷ vmidBits ∷ [])
-    -- 2A
-    ∷ (codeBits ∷ vmidBits ∷ leafBits ∷ ipaPageBits ∷ [])
-    -- 30
-    ∷ (codeBits ∷ [])
+    code 0x01 (λ f. bits 9 8 ∷ bits 127 11 ∷ [])
+    ∷ code 0x02 (λ f. bits 9 8 ∷ bits 127 11 ∷ [])
+    ∷ code 0x03 (λ f. streamBits ∷ leafBits ∷ [])
+    ∷ code 0x04 (λ f. streamBits ∷ rangeBits ∷ [])
+    ∷ code 0x05 (λ f. substreamBits ∷ streamBits ∷ leafBits ∷ [])
+    ∷ code 0x06 (λ f. streamBits ∷ [])
+    ∷ code 0x10 (λ f. vmidWith f)
+    ∷ code 0x11 (λ f. vmidWith f ++ asidBits ∷ [])
+    ∷ code 0x12 (λ f. vmidWith f ++ asidBits ∷ leafBits ∷ pageBits ∷ [])
+    ∷ code 0x13 (λ f. vmidWith f ++ leafBits ∷ pageBits ∷ [])
+    ∷ code 0x28 (λ f. vmidBits ∷ [])
+    ∷ code 0x2A (λ f. vmidBits ∷ leafBits ∷ ipaPageBits ∷ [])
+    ∷ code 0x30 (λ f. [])
     -- 46: 27:22, 63:32 and 127:64 are not looked at
-    ∷ (codeBits ∷ csBits ∷ bits 27 22 ∷ bits 63 32 ∷ bits 127 64 ∷ [])
+    ∷ code 0x46 (λ f. csBits ∷ bits 27 22 ∷ bits 63 32 ∷ bits 127 64 ∷ [])
     ∷ []
 
--- those of the k-th code
-abbrev pub namedAt : Bool → ℕ → List Range
-namedAt s2p k = getD (namedParts s2p) k []
+abbrev pub howMany : ℕ
+howMany = length formats
+
+abbrev codeIn : Format → ℕ
+codeIn (code n names) = n
+
+abbrev namesIn : Format → Features → List Range
+namesIn (code n names) f = names f
+
+-- the codes, in the paper's order
+abbrev pub codes : List ℕ
+codes = map codeIn formats
+
+-- the bits that the k-th code names
+abbrev pub namedAt : Features → ℕ → List Range
+namedAt f k = codeBits ∷ getD (map (λ (l : Format). namesIn l f) formats) k []
+
+-- a pair of masks, for the low word and the high: their set bits are those that lie in the ranges
+abbrev pub exactly : (ℕ → Bool) → ℕ → Bool
+exactly p m = all 64 (λ i. pick (isSet i m) (p i) (not (p i)))
+
+pub record MasksOf (rs : List Range) (m : List ℕ) : Type 0 where
+  pub low : exactly (named rs) (getD m 0 0) ≡ true
+  pub high : exactly (λ i. named rs (64 + i)) (getD m 1 0) ≡ true

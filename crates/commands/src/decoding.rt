@@ -2,6 +2,7 @@
 use crate::Command;
 use crate::Decoded;
 use crate::Features;
+use crate::formats::CODES;
 use crate::formats::clean;
 use crate::formats::field;
 ghost use mathlib.Core.Path.{_≡_};
@@ -13,7 +14,7 @@ ghost use Rattle.words.specs.Ranges.{get};
 ghost use Rattle.commands.specs.Formats.{codes, streamBits, vmidBits, asidBits, leafBits, pageBits};
 ghost use Rattle.commands.specs.Decoding.{featurePresent, parameterGood, isLegal, isSetIn, commandOf, decode, decodeAt, isCounted, syncsOf};
 
-// The place of a code among the fourteen, or 14.
+// The place of a code among the codes, or how many there are.
 fn place(code: u64) -> usize
     ensures { λ r. ⌜ r ≡ placeOf codes code ⌝ }
 {
@@ -32,7 +33,7 @@ fn place(code: u64) -> usize
         0x2A => 11,
         0x30 => 12,
         0x46 => 13,
-        _ => 14,
+        _ => CODES,
     }
 }
 
@@ -59,8 +60,8 @@ fn is_legal(f: Features, lo: u64, hi: u64) -> bool
 {
     let code = field(lo, hi, 7, 0);
     let k = place(code);
-    if k < 14 {
-        return feature_present(f, code) & clean(f.s2p, k, lo, hi) & parameter_good(code, lo, hi);
+    if k < CODES {
+        return feature_present(f, code) & clean(f, k, lo, hi) & parameter_good(code, lo, hi);
     }
     false
 }
