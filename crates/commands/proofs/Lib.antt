@@ -1,4 +1,5 @@
 pub mod Masks
 pub mod Codes
+pub mod Commands
 pub mod Legality
 pub mod OtherCommands

@@ -2,7 +2,7 @@
 -- Assumes nothing.
 use Prim.Native.Nat.{ℕ, _+_, _*_}
 use mathlib.Core.Bool.{Bool, true, false, not, _&&_, _||_}
-use mathlib.Core.List.{List}
+use mathlib.Core.List.{List, [], _∷_}
 use lib.Dec.{eqb, leb, ltb}
 use Rattle.words.specs.Choice.{pick}
 use Rattle.words.specs.Parts.{joined}
@@ -10,6 +10,7 @@ use Rattle.words.specs.Ranges.{Range, get, named, setOnly}
 use Rattle.words.specs.Search.{placeOf}
 use Rattle.words.specs.Bytes.{wordAt}
 use Rattle.commands.specs.declared.Features.{Features}
+use Rattle.commands.specs.declared.Target.{Target}
 use Rattle.commands.specs.declared.Command.{Command}
 use Rattle.commands.specs.declared.Command.the-variants.{PrefetchConfig, PrefetchAddr, CfgiSte, CfgiSteRange, CfgiCd, CfgiCdAll, TlbiNhAll, TlbiNhAsid, TlbiNhVa, TlbiNhVaa, TlbiS12Vmall, TlbiS2Ipa, TlbiNsnhAll, Sync}
 use Rattle.commands.specs.declared.Decoded.{Decoded}
@@ -49,22 +50,35 @@ isLegal f c = knownCode c && featurePresent f (codeOf c) && clean f (placeIn c) 
 abbrev pub isSetIn : Range → ℕ → Bool
 isSetIn r c = eqb (get r c) 1
 
+-- what a command by address aims at, given the page
+abbrev pub targetOf : ℕ → ℕ → Target
+targetOf page c = record { leaf = isSetIn leafBits c; page = page }
+
+-- each code but the last, with its command
+abbrev pub commandsIn : ℕ → List (ℕ × Command)
+commandsIn c =
+    (0x01, PrefetchConfig)
+    ∷ (0x02, PrefetchAddr)
+    ∷ (0x03, CfgiSte (get streamBits c) (isSetIn leafBits c))
+    ∷ (0x04, CfgiSteRange (get streamBits c) (get rangeBits c))
+    ∷ (0x05, CfgiCd (get substreamBits c) (get streamBits c) (isSetIn leafBits c))
+    ∷ (0x06, CfgiCdAll (get streamBits c))
+    ∷ (0x10, TlbiNhAll (get vmidBits c))
+    ∷ (0x11, TlbiNhAsid (get vmidBits c) (get asidBits c))
+    ∷ (0x12, TlbiNhVa (get vmidBits c) (get asidBits c) (targetOf (get pageBits c) c))
+    ∷ (0x13, TlbiNhVaa (get vmidBits c) (targetOf (get pageBits c) c))
+    ∷ (0x28, TlbiS12Vmall (get vmidBits c))
+    ∷ (0x2A, TlbiS2Ipa (get vmidBits c) (targetOf (get ipaPageBits c) c))
+    ∷ (0x30, TlbiNsnhAll)
+    ∷ []
+
+-- what stands beside a code in a list, or else the last
+abbrev pub beside : ℕ → List (ℕ × Command) → Command → Command
+beside code [] last = last
+beside code (x ∷ xs) last = pick (eqb code (x .0)) (x .1) (beside code xs last)
+
 unfoldable pub commandOf : ℕ → ℕ → Command
-commandOf code c =
-    pick (eqb code 0x01) PrefetchConfig
-    (pick (eqb code 0x02) PrefetchAddr
-    (pick (eqb code 0x03) (CfgiSte (get streamBits c) (isSetIn leafBits c))
-    (pick (eqb code 0x04) (CfgiSteRange (get streamBits c) (get rangeBits c))
-    (pick (eqb code 0x05) (CfgiCd (get substreamBits c) (get streamBits c) (isSetIn leafBits c))
-    (pick (eqb code 0x06) (CfgiCdAll (get streamBits c))
-    (pick (eqb code 0x10) (TlbiNhAll (get vmidBits c))
-    (pick (eqb code 0x11) (TlbiNhAsid (get vmidBits c) (get asidBits c))
-    (pick (eqb code 0x12) (TlbiNhVa (get vmidBits c) (get asidBits c) (isSetIn leafBits c) (get pageBits c))
-    (pick (eqb code 0x13) (TlbiNhVaa (get vmidBits c) (isSetIn leafBits c) (get pageBits c))
-    (pick (eqb code 0x28) (TlbiS12Vmall (get vmidBits c))
-    (pick (eqb code 0x2A) (TlbiS2Ipa (get vmidBits c) (isSetIn leafBits c) (get ipaPageBits c))
-    (pick (eqb code 0x30) TlbiNsnhAll
-    (Sync (get csBits c))))))))))))))
+commandOf code c = beside code (commandsIn c) (Sync (get csBits c))
 
 unfoldable pub decode : Features → ℕ → ℕ → Decoded
 decode f lo hi =
@@ -84,10 +98,10 @@ isCounted (CfgiCd substream stream leaf) = false
 isCounted (CfgiCdAll stream) = false
 isCounted (TlbiNhAll vmid) = false
 isCounted (TlbiNhAsid vmid asid) = false
-isCounted (TlbiNhVa vmid asid leaf page) = false
-isCounted (TlbiNhVaa vmid leaf page) = false
+isCounted (TlbiNhVa vmid asid target) = false
+isCounted (TlbiNhVaa vmid target) = false
 isCounted (TlbiS12Vmall vmid) = false
-isCounted (TlbiS2Ipa vmid leaf page) = false
+isCounted (TlbiS2Ipa vmid target) = false
 isCounted TlbiNsnhAll = false
 isCounted (Sync cs) = eqb cs 1
 

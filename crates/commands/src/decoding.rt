@@ -2,6 +2,7 @@
 use crate::Command;
 use crate::Decoded;
 use crate::Features;
+use crate::Target;
 use crate::formats::CODES;
 use crate::formats::clean;
 use crate::formats::field;
@@ -12,7 +13,7 @@ ghost use Rattle.words.specs.Parts.{joined};
 ghost use Rattle.words.specs.Search.{placeOf};
 ghost use Rattle.words.specs.Ranges.{get};
 ghost use Rattle.commands.specs.Formats.{codes, streamBits, vmidBits, asidBits, leafBits, pageBits};
-ghost use Rattle.commands.specs.Decoding.{featurePresent, parameterGood, isLegal, isSetIn, commandOf, decode, decodeAt, isCounted, syncsOf};
+ghost use Rattle.commands.specs.Decoding.{featurePresent, parameterGood, isLegal, isSetIn, targetOf, commandOf, decode, decodeAt, isCounted, syncsOf};
 
 // The place of a code among the codes, or how many there are.
 fn place(code: u64) -> usize
@@ -96,6 +97,15 @@ fn page(lo: u64, hi: u64) -> u64
     field(lo, hi, 127, 76)
 }
 
+fn target_of(lo: u64, hi: u64, page: u64) -> Target
+    ensures { λ r. ⌜ r ≡ targetOf page (joined lo hi) ⌝ }
+{
+    Target {
+        leaf: leaf(lo, hi),
+        page,
+    }
+}
+
 fn command_of(code: u64, lo: u64, hi: u64) -> Command
     ensures { λ r. ⌜ r ≡ commandOf code (joined lo hi) ⌝ }
 {
@@ -108,10 +118,10 @@ fn command_of(code: u64, lo: u64, hi: u64) -> Command
         0x06 => Command::CfgiCdAll(stream(lo, hi)),
         0x10 => Command::TlbiNhAll(vmid(lo, hi)),
         0x11 => Command::TlbiNhAsid(vmid(lo, hi), asid(lo, hi)),
-        0x12 => Command::TlbiNhVa(vmid(lo, hi), asid(lo, hi), leaf(lo, hi), page(lo, hi)),
-        0x13 => Command::TlbiNhVaa(vmid(lo, hi), leaf(lo, hi), page(lo, hi)),
+        0x12 => Command::TlbiNhVa(vmid(lo, hi), asid(lo, hi), target_of(lo, hi, page(lo, hi))),
+        0x13 => Command::TlbiNhVaa(vmid(lo, hi), target_of(lo, hi, page(lo, hi))),
         0x28 => Command::TlbiS12Vmall(vmid(lo, hi)),
-        0x2A => Command::TlbiS2Ipa(vmid(lo, hi), leaf(lo, hi), field(lo, hi, 115, 76)),
+        0x2A => Command::TlbiS2Ipa(vmid(lo, hi), target_of(lo, hi, field(lo, hi, 115, 76))),
         0x30 => Command::TlbiNsnhAll,
         _ => Command::Sync(field(lo, hi, 13, 12)),
     }

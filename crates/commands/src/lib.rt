@@ -16,7 +16,13 @@ pub struct Features {
     pub vmid16: bool,
 }
 
-// A legal command, with its fields as they stand. A page is an address without its low 12 bits.
+// What a command by address aims at: Leaf, and the address without its low 12 bits.
+pub struct Target {
+    pub leaf: bool,
+    pub page: u64,
+}
+
+// A legal command, with its fields as they stand.
 pub enum Command {
     PrefetchConfig,
     PrefetchAddr,
@@ -32,14 +38,14 @@ pub enum Command {
     TlbiNhAll(u64),
     // VMID, ASID
     TlbiNhAsid(u64, u64),
-    // VMID, ASID, Leaf, page
-    TlbiNhVa(u64, u64, bool, u64),
-    // VMID, Leaf, page
-    TlbiNhVaa(u64, bool, u64),
+    // VMID, ASID
+    TlbiNhVa(u64, u64, Target),
+    // VMID
+    TlbiNhVaa(u64, Target),
     // VMID
     TlbiS12Vmall(u64),
-    // VMID, Leaf, page
-    TlbiS2Ipa(u64, bool, u64),
+    // VMID
+    TlbiS2Ipa(u64, Target),
     TlbiNsnhAll,
     // CS
     Sync(u64),

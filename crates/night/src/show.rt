@@ -93,11 +93,11 @@ pub fn checked(c: Checked) {
 
 fn legal(c: Command) {
     match c {
-        Command::TlbiNhVa(vmid, asid, leaf, page) => {
+        Command::TlbiNhVa(vmid, asid, target) => {
             number(b"TLBI_NH_VA, VMID ", vmid);
             number(b", ASID ", asid);
-            hex(b", address ", page << 12);
-            if leaf {
+            hex(b", address ", target.page << 12);
+            if target.leaf {
                 say(b", Leaf 1\n");
             } else {
                 say(b", Leaf 0\n");

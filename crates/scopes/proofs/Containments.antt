@@ -16,6 +16,7 @@ use Rattle.words.proofs.Truth.{left, right, and-true, either, or-left, or-right
 use Rattle.rows.specs.declared.Row.{Row}
 use Rattle.rows.specs.Rows as rows
 use Rattle.commands.specs.declared.Features.{Features}
+use Rattle.commands.specs.declared.Target.{Target}
 use Rattle.commands.specs.declared.Command.{Command}
 use Rattle.commands.specs.declared.Command.the-variants.{CfgiSte, CfgiSteRange, TlbiNhAll, TlbiNhAsid, TlbiNhVa, TlbiNhVaa, TlbiS12Vmall, TlbiS2Ipa, TlbiNsnhAll}
 use Rattle.scopes.specs.Scopes.{notSpared, meets, steBlock, blockOf, steOf, cdOf, stageOf, stageAt, hasAsid, isStage, addressOf, narrow, removes, idle, inScope}
@@ -35,9 +36,9 @@ within f a b busy more row e =
 one-narrow : (a b : Bool) → not (a && b) ≡ false → not a ≡ false
 one-narrow a b e = ap not (left a b (not-false (a && b) e))
 
-at-of : (row : Row) (k v p : ℕ) → stageAt row k v p ≡ true → stageOf row k v ≡ true
+at-of : (row : Row) (k v : ℕ) (t : Target) → stageAt row k v t ≡ true → stageOf row k v ≡ true
 unfolding stageAt
-at-of row k v p e = left (stageOf row k v) (rows.covers row (addressOf p)) e
+at-of row k v t e = left (stageOf row k v) (rows.covers row (addressOf (t .page))) e
 
 of-kind : (row : Row) (k v : ℕ) → stageOf row k v ≡ true → eqb (rows.kind row) k ≡ true
 unfolding stageOf
@@ -59,11 +60,11 @@ unfolding idle removes
 vmall-contains-nh-all f v = within f (TlbiNhAll v) (TlbiS12Vmall v) (λ b. b) (λ row e. or-left (stageOf row 2 v) (stageOf row 3 v) e)
 
 -- 28 contains 2A
-pub vmall-contains-ipa : (f : Features) (v p : ℕ) (leaf : Bool) → Within f (TlbiS2Ipa v leaf p) (TlbiS12Vmall v)
+pub vmall-contains-ipa : (f : Features) (v : ℕ) (t : Target) → Within f (TlbiS2Ipa v t) (TlbiS12Vmall v)
 unfolding idle removes
-vmall-contains-ipa f v p leaf =
-    within f (TlbiS2Ipa v leaf p) (TlbiS12Vmall v) (λ b. b)
-    (λ row e. or-right (stageOf row 2 v) (stageOf row 3 v) (at-of row 3 v p (left (stageAt row 3 v p) (notSpared row leaf) e)))
+vmall-contains-ipa f v t =
+    within f (TlbiS2Ipa v t) (TlbiS12Vmall v) (λ b. b)
+    (λ row e. or-right (stageOf row 2 v) (stageOf row 3 v) (at-of row 3 v t (left (stageAt row 3 v t) (notSpared row (t .leaf)) e)))
 
 -- 10 contains 11
 pub nh-all-contains-asid : (f : Features) (v a : ℕ) → Within f (TlbiNhAsid v a) (TlbiNhAll v)
@@ -73,23 +74,29 @@ nh-all-contains-asid f v a =
     (λ row e. left (stageOf row 2 v) (hasAsid row a) (left (stageOf row 2 v && hasAsid row a) (not (rows.isGlobal row)) e))
 
 -- 10 contains 13
-pub nh-all-contains-vaa : (f : Features) (v p : ℕ) (leaf : Bool) → Within f (TlbiNhVaa v leaf p) (TlbiNhAll v)
+pub nh-all-contains-vaa : (f : Features) (v : ℕ) (t : Target) → Within f (TlbiNhVaa v t) (TlbiNhAll v)
 unfolding idle removes
-nh-all-contains-vaa f v p leaf =
-    within f (TlbiNhVaa v leaf p) (TlbiNhAll v) (λ b. b) (λ row e. at-of row 2 v p (left (stageAt row 2 v p) (notSpared row leaf) e))
+nh-all-contains-vaa f v t =
+    within f (TlbiNhVaa v t) (TlbiNhAll v) (λ b. b) (λ row e. at-of row 2 v t (left (stageAt row 2 v t) (notSpared row (t .leaf)) e))
 
 -- 13 contains 12, where its Leaf is 0 or the same
 spared-less : (row : Row) (leaf leaf′ : Bool) → (leaf′ ≡ false) ⊎ (leaf′ ≡ leaf) → notSpared row leaf ≡ true → notSpared row leaf′ ≡ true
 spared-less row leaf leaf′ h e =
     ⊎-elim (λ z. rw z (or-right (rows.isLast row) true refl)) (λ s. rw s e) h
 
-pub vaa-contains-va : (f : Features) (v a p : ℕ) (leaf leaf′ : Bool) → (leaf′ ≡ false) ⊎ (leaf′ ≡ leaf) → Within f (TlbiNhVa v a leaf p) (TlbiNhVaa v leaf′ p)
+same-place : (row : Row) (k v : ℕ) (t t′ : Target) → t′ .page ≡ t .page → stageAt row k v t ≡ true → stageAt row k v t′ ≡ true
+unfolding stageAt
+same-place row k v t t′ p e = rw p e
+
+pub vaa-contains-va : (f : Features) (v a : ℕ) (t t′ : Target) → t′ .page ≡ t .page → (t′ .leaf ≡ false) ⊎ (t′ .leaf ≡ t .leaf)
+    → Within f (TlbiNhVa v a t) (TlbiNhVaa v t′)
 unfolding idle removes
-vaa-contains-va f v a p leaf leaf′ h =
-    within f (TlbiNhVa v a leaf p) (TlbiNhVaa v leaf′ p) (one-narrow (narrow (f .vmid16) v) (narrow (f .asid16) a))
+vaa-contains-va f v a t t′ p h =
+    within f (TlbiNhVa v a t) (TlbiNhVaa v t′) (one-narrow (narrow (f .vmid16) v) (narrow (f .asid16) a))
     (λ row e. let any = hasAsid row a || rows.isGlobal row in
-    let first = left (stageAt row 2 v p && any) (notSpared row leaf) e in
-    and-true (left (stageAt row 2 v p) any first) (spared-less row leaf leaf′ h (right (stageAt row 2 v p && any) (notSpared row leaf) e)))
+    let first = left (stageAt row 2 v t && any) (notSpared row (t .leaf)) e in
+    and-true (same-place row 2 v t t′ p (left (stageAt row 2 v t) any first))
+    (spared-less row (t .leaf) (t′ .leaf) h (right (stageAt row 2 v t && any) (notSpared row (t .leaf)) e)))
 
 -- 04 with Range 31 contains every 03
 none-above : (x k : ℕ) → x < 2 ^ 32 → 32 ≤ k → x / 2 ^ k ≡ 0

@@ -8,6 +8,7 @@ use Rattle.words.specs.Parts.{part}
 use Rattle.rows.specs.declared.Row.{Row}
 use Rattle.rows.specs.Rows as rows
 use Rattle.commands.specs.declared.Features.{Features}
+use Rattle.commands.specs.declared.Target.{Target}
 use Rattle.commands.specs.declared.Command.{Command}
 use Rattle.commands.specs.declared.Command.the-variants.{PrefetchConfig, PrefetchAddr, CfgiSte, CfgiSteRange, CfgiCd, CfgiCdAll, TlbiNhAll, TlbiNhAsid, TlbiNhVa, TlbiNhVaa, TlbiS12Vmall, TlbiS2Ipa, TlbiNsnhAll, Sync}
 
@@ -50,9 +51,9 @@ stageOf row kind vmid = eqb (rows.kind row) kind && eqb (rows.vmid row) vmid
 abbrev pub addressOf : ℕ → ℕ
 addressOf page = part 51 0 page * 2 ^ 12
 
--- rows of a stage and VMID that cover an address
-unfoldable pub stageAt : Row → ℕ → ℕ → ℕ → Bool
-stageAt row kind vmid page = stageOf row kind vmid && rows.covers row (addressOf page)
+-- rows of a stage and VMID that cover what a command aims at
+unfoldable pub stageAt : Row → ℕ → ℕ → Target → Bool
+stageAt row kind vmid target = stageOf row kind vmid && rows.covers row (addressOf (target .page))
 
 abbrev pub hasAsid : Row → ℕ → Bool
 hasAsid row asid = eqb (rows.asid row) asid
@@ -71,10 +72,10 @@ removes (CfgiCd substream stream leaf) row = cdAt row stream substream && notSpa
 removes (CfgiCdAll stream) row = cdOf row 0 stream
 removes (TlbiNhAll vmid) row = stageOf row rows.stage1 vmid
 removes (TlbiNhAsid vmid asid) row = stageOf row rows.stage1 vmid && hasAsid row asid && not (rows.isGlobal row)
-removes (TlbiNhVa vmid asid leaf page) row = stageAt row rows.stage1 vmid page && (hasAsid row asid || rows.isGlobal row) && notSpared row leaf
-removes (TlbiNhVaa vmid leaf page) row = stageAt row rows.stage1 vmid page && notSpared row leaf
+removes (TlbiNhVa vmid asid target) row = stageAt row rows.stage1 vmid target && (hasAsid row asid || rows.isGlobal row) && notSpared row (target .leaf)
+removes (TlbiNhVaa vmid target) row = stageAt row rows.stage1 vmid target && notSpared row (target .leaf)
 removes (TlbiS12Vmall vmid) row = stageOf row rows.stage1 vmid || stageOf row rows.stage2 vmid
-removes (TlbiS2Ipa vmid leaf page) row = stageAt row rows.stage2 vmid page && notSpared row leaf
+removes (TlbiS2Ipa vmid target) row = stageAt row rows.stage2 vmid target && notSpared row (target .leaf)
 removes TlbiNsnhAll row = isStage row
 removes (Sync cs) row = false
 
@@ -92,10 +93,10 @@ idle f (CfgiCd substream stream leaf) = false
 idle f (CfgiCdAll stream) = false
 idle f (TlbiNhAll vmid) = not (narrow (f .vmid16) vmid)
 idle f (TlbiNhAsid vmid asid) = not (narrow (f .vmid16) vmid && narrow (f .asid16) asid)
-idle f (TlbiNhVa vmid asid leaf page) = not (narrow (f .vmid16) vmid && narrow (f .asid16) asid)
-idle f (TlbiNhVaa vmid leaf page) = not (narrow (f .vmid16) vmid)
+idle f (TlbiNhVa vmid asid target) = not (narrow (f .vmid16) vmid && narrow (f .asid16) asid)
+idle f (TlbiNhVaa vmid target) = not (narrow (f .vmid16) vmid)
 idle f (TlbiS12Vmall vmid) = not (narrow (f .vmid16) vmid)
-idle f (TlbiS2Ipa vmid leaf page) = not (narrow (f .vmid16) vmid)
+idle f (TlbiS2Ipa vmid target) = not (narrow (f .vmid16) vmid)
 idle f TlbiNsnhAll = false
 idle f (Sync cs) = true
 

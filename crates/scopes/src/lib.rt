@@ -1,6 +1,7 @@
 // Document 01, Commands and their scopes: which rows a legal command removes.
 use commands::Command;
 use commands::Features;
+use commands::Target;
 use rows::Row;
 ghost use mathlib.Core.Path.{_≡_};
 ghost use Prim.Native.Nat.{_/_, _^_, _<_};
@@ -70,10 +71,10 @@ fn address_of(page: u64) -> u64
     words::part(page, 51, 0) * 4096
 }
 
-fn stage_at(row: Row, kind: u64, vmid: u64, page: u64) -> bool
-    ensures { λ r. ⌜ r ≡ stageAt row kind vmid page ⌝ }
+fn stage_at(row: Row, kind: u64, vmid: u64, target: Target) -> bool
+    ensures { λ r. ⌜ r ≡ stageAt row kind vmid target ⌝ }
 {
-    stage_of(row, kind, vmid) & rows::covers(row, address_of(page))
+    stage_of(row, kind, vmid) & rows::covers(row, address_of(target.page))
 }
 
 fn has_asid(row: Row, asid: u64) -> bool
@@ -116,16 +117,16 @@ fn removes(c: Command, row: Row) -> bool
         Command::TlbiNhAsid(vmid, asid) => stage_of(row, 2, vmid)
             & has_asid(row, asid)
             & !is_global(row),
-        Command::TlbiNhVa(vmid, asid, leaf, page) => {
-            stage_at(row, 2, vmid, page)
+        Command::TlbiNhVa(vmid, asid, target) => {
+            stage_at(row, 2, vmid, target)
                 & (has_asid(row, asid) | is_global(row))
-                & not_spared(row, leaf)
+                & not_spared(row, target.leaf)
         }
-        Command::TlbiNhVaa(vmid, leaf, page) => stage_at(row, 2, vmid, page)
-            & not_spared(row, leaf),
+        Command::TlbiNhVaa(vmid, target) => stage_at(row, 2, vmid, target)
+            & not_spared(row, target.leaf),
         Command::TlbiS12Vmall(vmid) => stage_of(row, 2, vmid) | stage_of(row, 3, vmid),
-        Command::TlbiS2Ipa(vmid, leaf, page) => stage_at(row, 3, vmid, page)
-            & not_spared(row, leaf),
+        Command::TlbiS2Ipa(vmid, target) => stage_at(row, 3, vmid, target)
+            & not_spared(row, target.leaf),
         Command::TlbiNsnhAll => is_stage(row),
         Command::Sync(_) => false,
     }
@@ -157,10 +158,10 @@ pub fn idle(f: Features, c: Command) -> bool
         Command::CfgiCdAll(_) => false,
         Command::TlbiNhAll(vmid) => !narrow(f.vmid16, vmid),
         Command::TlbiNhAsid(vmid, asid) => !(narrow(f.vmid16, vmid) & narrow(f.asid16, asid)),
-        Command::TlbiNhVa(vmid, asid, _, _) => !(narrow(f.vmid16, vmid) & narrow(f.asid16, asid)),
-        Command::TlbiNhVaa(vmid, _, _) => !narrow(f.vmid16, vmid),
+        Command::TlbiNhVa(vmid, asid, _) => !(narrow(f.vmid16, vmid) & narrow(f.asid16, asid)),
+        Command::TlbiNhVaa(vmid, _) => !narrow(f.vmid16, vmid),
         Command::TlbiS12Vmall(vmid) => !narrow(f.vmid16, vmid),
-        Command::TlbiS2Ipa(vmid, _, _) => !narrow(f.vmid16, vmid),
+        Command::TlbiS2Ipa(vmid, _) => !narrow(f.vmid16, vmid),
         Command::TlbiNsnhAll => false,
         Command::Sync(_) => true,
     }

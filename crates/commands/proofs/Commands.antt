@@ -1,0 +1,72 @@
+-- A command by its code and the fields that were read.
+-- Assumes nothing.
+use mathlib.Core.Path.{_≡_, ap, _∙_}
+use mathlib.Core.Bool.{Bool}
+use mathlib.Core.List.{map}
+use Prim.Native.Nat.{ℕ}
+use Rattle.words.specs.Ranges.{get}
+use Rattle.commands.specs.declared.Target.{Target}
+use Rattle.commands.specs.declared.Command.{Command}
+use Rattle.commands.specs.declared.Command.the-variants.{PrefetchConfig, PrefetchAddr, CfgiSte, CfgiSteRange, CfgiCd, CfgiCdAll, TlbiNhAll, TlbiNhAsid, TlbiNhVa, TlbiNhVaa, TlbiS12Vmall, TlbiS2Ipa, TlbiNsnhAll, Sync}
+use Rattle.commands.specs.Formats.{streamBits, substreamBits, vmidBits, asidBits, csBits, leafBits, rangeBits, pageBits, ipaPageBits}
+use Rattle.commands.specs.Decoding.{isSetIn, targetOf, commandsIn, commandOf}
+use Rattle.commands.proofs.Codes.{NoneOf, none-beside}
+
+module _ (code c : ℕ) where
+  pub is-01 : code ≡ 0x01 → PrefetchConfig ≡ commandOf code c
+  unfolding commandOf
+  is-01 e = rw e
+
+  pub is-02 : code ≡ 0x02 → PrefetchAddr ≡ commandOf code c
+  unfolding commandOf
+  is-02 e = rw e
+
+  pub is-03 : (s : ℕ) (l : Bool) → code ≡ 0x03 → s ≡ get streamBits c → l ≡ isSetIn leafBits c → CfgiSte s l ≡ commandOf code c
+  unfolding commandOf
+  is-03 s l e p q = rw (e, p, q)
+
+  pub is-04 : (s r : ℕ) → code ≡ 0x04 → s ≡ get streamBits c → r ≡ get rangeBits c → CfgiSteRange s r ≡ commandOf code c
+  unfolding commandOf
+  is-04 s r e p q = rw (e, p, q)
+
+  pub is-05 : (u s : ℕ) (l : Bool) → code ≡ 0x05 → u ≡ get substreamBits c → s ≡ get streamBits c → l ≡ isSetIn leafBits c
+      → CfgiCd u s l ≡ commandOf code c
+  unfolding commandOf
+  is-05 u s l e o p q = rw (e, o, p, q)
+
+  pub is-06 : (s : ℕ) → code ≡ 0x06 → s ≡ get streamBits c → CfgiCdAll s ≡ commandOf code c
+  unfolding commandOf
+  is-06 s e p = rw (e, p)
+
+  pub is-10 : (v : ℕ) → code ≡ 0x10 → v ≡ get vmidBits c → TlbiNhAll v ≡ commandOf code c
+  unfolding commandOf
+  is-10 v e p = rw (e, p)
+
+  pub is-11 : (v a : ℕ) → code ≡ 0x11 → v ≡ get vmidBits c → a ≡ get asidBits c → TlbiNhAsid v a ≡ commandOf code c
+  unfolding commandOf
+  is-11 v a e p q = rw (e, p, q)
+
+  pub is-12 : (v a p : ℕ) (t : Target) → code ≡ 0x12 → v ≡ get vmidBits c → a ≡ get asidBits c → p ≡ get pageBits c → t ≡ targetOf p c
+      → TlbiNhVa v a t ≡ commandOf code c
+  unfolding commandOf
+  is-12 v a p t e x y z w = rw (e, x, y, w, z)
+
+  pub is-13 : (v p : ℕ) (t : Target) → code ≡ 0x13 → v ≡ get vmidBits c → p ≡ get pageBits c → t ≡ targetOf p c → TlbiNhVaa v t ≡ commandOf code c
+  unfolding commandOf
+  is-13 v p t e x z w = rw (e, x, w, z)
+
+  pub is-28 : (v : ℕ) → code ≡ 0x28 → v ≡ get vmidBits c → TlbiS12Vmall v ≡ commandOf code c
+  unfolding commandOf
+  is-28 v e p = rw (e, p)
+
+  pub is-2A : (v p : ℕ) (t : Target) → code ≡ 0x2A → v ≡ get vmidBits c → p ≡ get ipaPageBits c → t ≡ targetOf p c → TlbiS2Ipa v t ≡ commandOf code c
+  unfolding commandOf
+  is-2A v p t e x z w = rw (e, x, w, z)
+
+  pub is-30 : code ≡ 0x30 → TlbiNsnhAll ≡ commandOf code c
+  unfolding commandOf
+  is-30 e = rw e
+
+  pub is-46 : (s : ℕ) → NoneOf Unit (map (λ (x : ℕ × Command). x .0) (commandsIn c)) code → s ≡ get csBits c → Sync s ≡ commandOf code c
+  unfolding commandOf
+  is-46 s n p = ap Sync p ∙ none-beside Unit (commandsIn c) code (Sync (get csBits c)) n

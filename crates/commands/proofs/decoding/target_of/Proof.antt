@@ -1,0 +1,11 @@
+-- `commands::decoding::target_of` meets its contract.
+-- Assumes nothing.
+use borrow.Author.Needs.{needs}
+use Rattle.commands.proofs.decoding.target_of.Statement.{statement}
+use Rattle.commands.proofs.decoding.target_of.Tie as tie
+
+returns : tie.Need-returns
+returns c = rw (c .leaf .ensures)
+
+pub target-of-spec : {M : Type 1} → statement M
+target-of-spec = tie.close (tie.spec (λ c κs. search needs) returns)
