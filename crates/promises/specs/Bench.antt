@@ -33,10 +33,10 @@ spelled (Legal (CfgiCd substream stream leaf)) = 0x05 ∷ substream ∷ stream �
 spelled (Legal (CfgiCdAll stream)) = 0x06 ∷ stream ∷ []
 spelled (Legal (TlbiNhAll vmid)) = 0x10 ∷ vmid ∷ []
 spelled (Legal (TlbiNhAsid vmid asid)) = 0x11 ∷ vmid ∷ asid ∷ []
-spelled (Legal (TlbiNhVa vmid asid leaf page)) = 0x12 ∷ vmid ∷ asid ∷ truth leaf ∷ page ∷ []
-spelled (Legal (TlbiNhVaa vmid leaf page)) = 0x13 ∷ vmid ∷ truth leaf ∷ page ∷ []
+spelled (Legal (TlbiNhVa vmid asid target)) = 0x12 ∷ vmid ∷ asid ∷ truth (target .leaf) ∷ target .page ∷ []
+spelled (Legal (TlbiNhVaa vmid target)) = 0x13 ∷ vmid ∷ truth (target .leaf) ∷ target .page ∷ []
 spelled (Legal (TlbiS12Vmall vmid)) = 0x28 ∷ vmid ∷ []
-spelled (Legal (TlbiS2Ipa vmid leaf page)) = 0x2A ∷ vmid ∷ truth leaf ∷ page ∷ []
+spelled (Legal (TlbiS2Ipa vmid target)) = 0x2A ∷ vmid ∷ truth (target .leaf) ∷ target .page ∷ []
 spelled (Legal TlbiNsnhAll) = 0x30 ∷ []
 spelled (Legal (Sync cs)) = 0x46 ∷ cs ∷ []
 
