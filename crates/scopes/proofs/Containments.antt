@@ -1,15 +1,11 @@
 -- Commands that remove at least what others do: by these a reader sees that the table was read right.
 -- Assumes nothing.
-use mathlib.Core.Path.{_≡_, refl, sym, ap, _∙_}
+use mathlib.Core.Path.{_≡_, refl, ap}
 use mathlib.Core.Bool.{Bool, true, false, not, _&&_, _||_}
 use mathlib.Core.Logic.{_⊎_, ⊎-elim}
-use Prim.Native.Nat.{ℕ, _+_, _/_, _^_, _≤_, _<_, max}
-use native.Mathlib.Nat.{div-eq-of-lt, lt-of-lt-of-le}
-use native.Mathlib.Omega.{arith}
+use Prim.Native.Nat.{ℕ, _^_, _<_}
 use lib.Dec.{eqb}
-use lib.Pow.{pow-mono}
-use borrow.Author.Tests.{eq-eqb, not-true, not-false}
-use Rattle.words.specs.Choice.{pick}
+use borrow.Author.Tests.{not-false}
 use Rattle.words.specs.Parts.{part}
 use Rattle.words.proofs.Parts.{part-lt}
 use Rattle.words.proofs.Truth.{left, right, and-true, either, or-left, or-right}
@@ -19,8 +15,9 @@ use Rattle.commands.specs.declared.Features.{Features}
 use Rattle.commands.specs.declared.Target.{Target}
 use Rattle.commands.specs.declared.Command.{Command}
 use Rattle.commands.specs.declared.Command.the-variants.{CfgiSte, CfgiSteRange, TlbiNhAll, TlbiNhAsid, TlbiNhVa, TlbiNhVaa, TlbiS12Vmall, TlbiS2Ipa, TlbiNsnhAll}
-use Rattle.scopes.specs.Scopes.{notSpared, meets, steBlock, blockOf, steOf, cdOf, stageOf, stageAt, hasAsid, isStage, addressOf, narrow, removes, idle, inScope}
-use Rattle.scopes.proofs.Laws.{Scoped, scoped, is-scoped}
+use Rattle.scopes.specs.Scopes.{notSpared, meets, steBlock, steOf, cdOf, stageOf, stageAt, hasAsid, addressOf, narrow, removes, idle, inScope}
+use Rattle.scopes.proofs.Laws.{scoped, is-scoped}
+use Rattle.scopes.proofs.Blocks.{all-meet}
 
 -- b removes whatever a removes
 abbrev pub Within : Features → Command → Command → Type 0
@@ -99,13 +96,6 @@ vaa-contains-va f v a t t′ p h =
     (spared-less row (t .leaf) (t′ .leaf) h (right (stageAt row 2 v t && any) (notSpared row (t .leaf)) e)))
 
 -- 04 with Range 31 contains every 03
-none-above : (x k : ℕ) → x < 2 ^ 32 → 32 ≤ k → x / 2 ^ k ≡ 0
-none-above x k h l = div-eq-of-lt (lt-of-lt-of-le h (pow-mono l))
-
-all-meet : (n a b : ℕ) → a < 2 ^ 32 → b < 2 ^ 32 → meets n a 32 b ≡ true
-all-meet n a b h k =
-    eq-eqb (a / 2 ^ max n 32) (b / 2 ^ max n 32) (none-above a (max n 32) h (omega arith) ∙ sym (none-above b (max n 32) k (omega arith)))
-
 pub range-contains-ste : (f : Features) (s t : ℕ) (leaf : Bool) → t < 2 ^ 32 → Within f (CfgiSte s leaf) (CfgiSteRange t 31)
 unfolding idle removes steOf cdOf part
 range-contains-ste f s t leaf h =
