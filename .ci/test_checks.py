@@ -68,9 +68,66 @@ def stores():
     expect('a copy written back', len(writes.wrong('runs', 'fn go(kept: &mut [u64], copy: [u64; 5])\n{\n    kept[0] = copy[0];\n    kept[1] = copy[1];\n}\n')) == 1)
 
 
+def evasions():
+    """Stores that do not look like `kept[i] = v` of a named function: a body, and a word of the reason why it is refused."""
+    for body, reason in [
+        ('let k = &mut *kept; k[0] = 1;', 'lends kept'),
+        ('let k = &mut *kept; k[0] = 1;', 'stores 1 times'),
+        ('let k = kept; k[0] = 1;', 'lends kept'),
+        ('put(&mut kept[1], v);', 'lends kept'),
+        ('put(v, &mut kept[1..]);', 'lends kept'),
+        ('hold(Held { words: &mut *kept });', 'lends kept'),
+        ('hold(Held { kept, v });', 'lends kept'),
+        ('kept.swap(0, 1);', 'lends kept'),
+        ('*kept = v;', 'stores 1 times'),
+        ('(*kept)[0] = v;', 'stores 1 times'),
+        ('kept[t[0]] = v;', 'stores 1 times'),
+        ('kept[{ let i = 0; i }] = v;', 'stores 1 times'),
+        ('kept[1..][0] = v;', 'stores 1 times'),
+        ('kept[0] <<= 1;', 'stores 1 times'),
+        ('s.words[0] = v;', 'stores 1 times'),
+        ('match c { true => kept[0] = v, false => kept[1] = v }', 'stores 2 times'),
+        ('let quoted = b"//"; kept[0] = v;', 'stores 1 times'),
+        ('if v == 0 { return; } kept[0] = v;', 'stores 1 times'),
+        ('gather(bytes, &mut *kept, n);', 'lends kept'),
+        ('gather(bytes, kept, n);', 'lends kept'),
+    ]:
+        told = writes.wrong('runs', 'fn go(kept: &mut [u64], v: u64) {\n    %s\n}\n' % body)
+        expect('an evasion: ' + body, any(reason in line for line in told))
+    expect('a word lent alone', len(writes.wrong('runs', 'fn put(m: &mut u64, v: u64) { *m = v; }')) == 1)
+    for body in [
+        'let mut i = 0; while i < 4 { kept[i] = v; i += 1; }',
+        'for i in 0..4 { kept[i] = v; }',
+        'loop { kept[0] = v; }',
+        'kept[0] = v; doorbell(&mut *kept, v);',
+        'kept[0] = v; doorbell(kept, v);',
+    ]:
+        told = writes.wrong('control_calls', 'pub fn doorbell(kept: &mut [u64], v: u64) { %s }' % body)
+        expect('a store repeated: ' + body, len(told) == 1 and 'has a loop, or lends' in told[0])
+
+
+def allowed():
+    """What the sources do with lent words."""
+    for body in [
+        'let ran = running::go(&mut *kept, queue, f, v); Ran(ran)',
+        'match steps::step(&mut *kept, f, d, from) { Removed(i) => { from = i + 1; } Consumed => { left -= 1; } }',
+        'done(kept, v, &*kept, kept[t[0]], kept.len())',
+        'tell(\n        &mut *kept,\n        v,\n    )',
+        'let mut all = [0u64; 5]; gather(bytes, &mut all, n); state(&all[..n])',
+        'let x: [u64; 2] = [v; 2]; if let At(i) = find(&*kept) { return; } let At(i) = find(kept) else { return; };',
+        "let end = 'run: loop { if kept[0] <= v { break 'run v; } i += 1; };",
+    ]:
+        expect('allowed: ' + body, writes.wrong('runs', 'fn go(kept: &mut [u64], v: u64) {\n    %s\n}\n' % body) == [])
+    gather = 'fn gather(out: &mut [u64], n: usize) { let mut i = 0; while i < n { out[i] = 0; i += 1; } }'
+    expect('an array of its caller\'s is filled in a loop', writes.wrong('states', gather) == [])
+    expect('lent fields', writes.wrong('registers', 'fn acknowledge(r: &mut Fields) { r.gerrorn = 1; }') == [])
+
+
 citations()
 logs()
 stores()
+evasions()
+allowed()
 for what in FAILED:
     print('test_checks: ' + what)
 print('test_checks: %d wrong' % len(FAILED))

@@ -1,28 +1,39 @@
 """writes.py [DIR]: kept memory is assigned only where a single store is made.
 
-A contract sees a call's entry and exit, so it cannot tell a unit that works on a copy and writes it back. This check can: in
-the library crates below DIR (crates/), a function may assign to an element of a `&mut [u64]` parameter only if it is a step
-of a run or of a fill, or a call that makes one control store.
+A contract sees a call's entry and exit, so it cannot tell a unit that works on a copy and writes it back. This check can. In
+the library crates below DIR (crates/):
+- an assignment to more than a local's name (an element, a field, what a reference leads to) is a store, and a function's text
+  has just the stores that it has below;
+- a function that stores has no loop and lends nothing to change, so that nothing repeats its store within a call of it;
+- `&mut` stands only before a whole argument of a call, and a lent slice of words is only indexed, measured or handed on.
 """
 import os
 import re
 import sys
 
-# (crate, function): how many assignments its text has, of which a call makes at most one
-ALLOWED = {
+STORES = {
+    # to kept memory, of which a call makes at most one
     ('steps', 'step'): 3,
     ('fills', 'step'): 1,
     ('control_calls', 'doorbell'): 1,
     ('control_calls', 'acknowledge'): 1,
     ('control_calls', 'enable'): 1,
-    # an array of its caller's, filled from a program's input
+    # to other memory: the words of an answer, lent fields, an array of its caller's
+    ('host', 'tell'): 1,
+    ('registers', 'acknowledge'): 1,
     ('states', 'gather'): 1,
 }
+# It fills its caller's array, in a loop. So nothing but an array of its caller's own is handed to it.
+GATHERS = ('states', 'gather')
+
+QUOTED = r'"(?:\\.|[^"\\])*"|\'(?:\\[^\']+|[^\\\'])\'|//[^\n]*'
+TOKEN = r'\w+|<<=|>>=|\.\.=|[-+*/%&|^=!<>]=|=>|\S'
+ASSIGNS = r'(<<|>>|[-+*/%&|^])?='
 
 
 def functions(text):
     """Each function of a source: its name, its parameters and its body."""
-    text = re.sub(r'//.*', '', text)
+    text = re.sub(QUOTED, '', text)
     for found in re.finditer(r'\bfn\s+(\w+)\s*(?:<[^>]*>)?\s*\(', text):
         depth, at = 1, found.end()
         while depth:
@@ -42,28 +53,63 @@ def functions(text):
         yield found.group(1), params, text[opened:at]
 
 
-def assignments(params, body):
-    """How often the body assigns to an element of a lent slice or array of words."""
-    names = re.findall(r'(\w+)\s*:\s*&(?:\'\w+\s+)?mut\s*\[u64', params)
+def places(tokens):
+    """Each token's index, with what its statement has before it, and the callee whose arguments it stands among, or ''."""
+    within = [(0, '')]
+    for i, token in enumerate(tokens):
+        start, callee = within[-1]
+        yield i, tokens[start:i], callee
+        if token in ('(', '[', '{'):
+            within.append((i + 1, tokens[i - 1] if i and token == '(' and tokens[i - 1].isidentifier() else ''))
+        elif token in (')', ']', '}'):
+            within.pop()
+        if token in (';', ',', '=>', '}'):
+            within[-1] = (i + 1, within[-1][1])
+
+
+def stores(tokens):
+    """How often a body assigns to more than a local's name."""
     count = 0
-    for name in names:
-        count += len(re.findall(r'\b%s\s*\[[^\]]*\]\s*(?:[-+*/%%&|^]|<<|>>)?=(?!=)' % re.escape(name), body))
+    for i, target, _ in places(tokens):
+        while target and target[0] in ('else', 'if', 'while'):
+            target = target[1:]
+        bound = target[:1] in (['let'], ['const']) or len(target) == 1 and target[0].isidentifier()
+        if re.fullmatch(ASSIGNS, tokens[i]) and not bound:
+            count += 1
     return count
 
 
+def lends(slices, tokens):
+    """What a body lends to change: each name with its callee, which is '' where it is no whole argument of a call."""
+    for i, _, callee in places(tokens):
+        at = i
+        if tokens[i:i + 2] == ['&', 'mut']:
+            at += 3 if tokens[i + 2] == '*' else 2
+        elif tokens[i] not in slices or tokens[i - 1] == '*' or tokens[i + 1] == '[' or tokens[i + 1:i + 3] == ['.', 'len']:
+            continue
+        yield tokens[at], callee if tokens[at + 1] in (')', ',') else ''
+
+
 def wrong(crate, text):
-    """What a source of a crate does that it may not."""
+    """What the functions of a crate's source do that they may not."""
     found = []
     for name, params, body in functions(text):
-        count = assignments(params, body)
-        most = ALLOWED.get((crate, name), 0)
-        if count > most:
-            found.append('%s::%s assigns to lent words %d times, allowed %d' % (crate, name, count, most))
+        tokens = re.findall(TOKEN, body)
+        slices = re.findall(r'(\w+)\s*:\s*&(?:\'\w+\s+)?mut\s*\[u64\]', params)
+        lent = list(lends(slices, tokens))
+        count, may = stores(tokens), STORES.get((crate, name), 0)
+        if count != may:
+            found.append('%s::%s stores %d times, allowed %d' % (crate, name, count, may))
+        if may and (crate, name) != GATHERS and (lent or {'loop', 'while', 'for'} & set(tokens)):
+            found.append('%s::%s stores and has a loop, or lends what may be stored to' % (crate, name))
+        for what, callee in lent:
+            if not callee or callee == GATHERS[1] and not re.search(r'\blet mut %s = \[' % what, body):
+                found.append('%s::%s lends %s otherwise than to a call that hands it on' % (crate, name, what))
     return found
 
 
 def main(folder):
-    count, bad = 0, []
+    seen, bad = [], []
     for crate in sorted(os.listdir(folder)):
         source = os.path.join(folder, crate, 'src')
         if not os.path.isfile(os.path.join(source, 'lib.rt')):
@@ -71,12 +117,13 @@ def main(folder):
         for file in sorted(os.listdir(source)):
             with open(os.path.join(source, file), encoding='utf-8') as opened:
                 text = opened.read()
-            count += sum(1 for _ in functions(text))
+            seen += [(crate, name) for name, _, _ in functions(text)]
             bad += wrong(crate, text)
+    bad += ['%s::%s is not the name of one function' % key for key in STORES if seen.count(key) != 1]
     for line in bad:
         print(line)
-    print('writes: %d functions, %d write where they may not' % (count, len(bad)))
-    return 1 if bad or not count else 0
+    print('writes: %d functions, %d write where they may not' % (len(seen), len(bad)))
+    return 1 if bad or not seen else 0
 
 
 if __name__ == '__main__':
