@@ -110,8 +110,9 @@ fn removes(c: Command, row: Row) -> bool
             let n = block_of(range);
             ste_of(row, n, stream) | cd_of(row, n, stream)
         }
-        Command::CfgiCd(substream, stream, leaf) => cd_at(row, stream, substream)
-            & not_spared(row, leaf),
+        Command::CfgiCd(substream, stream, leaf) => {
+            cd_at(row, stream, substream) & not_spared(row, leaf)
+        }
         Command::CfgiCdAll(stream) => cd_of(row, 0, stream),
         Command::TlbiNhAll(vmid) => stage_of(row, 2, vmid),
         Command::TlbiNhAsid(vmid, asid) => stage_of(row, 2, vmid)
@@ -122,11 +123,13 @@ fn removes(c: Command, row: Row) -> bool
                 & (has_asid(row, asid) | is_global(row))
                 & not_spared(row, target.leaf)
         }
-        Command::TlbiNhVaa(vmid, target) => stage_at(row, 2, vmid, target)
-            & not_spared(row, target.leaf),
+        Command::TlbiNhVaa(vmid, target) => {
+            stage_at(row, 2, vmid, target) & not_spared(row, target.leaf)
+        }
         Command::TlbiS12Vmall(vmid) => stage_of(row, 2, vmid) | stage_of(row, 3, vmid),
-        Command::TlbiS2Ipa(vmid, target) => stage_at(row, 3, vmid, target)
-            & not_spared(row, target.leaf),
+        Command::TlbiS2Ipa(vmid, target) => {
+            stage_at(row, 3, vmid, target) & not_spared(row, target.leaf)
+        }
         Command::TlbiNsnhAll => is_stage(row),
         Command::Sync(_) => false,
     }
