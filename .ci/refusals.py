@@ -3,6 +3,7 @@
 DIR holds a folder for each crate and in it one for each edit, with the prover's words in .log. An edit that no longer
 parses, names what is not there, or leaves a proof file that does not fit the code would be refused too, and shows nothing.
 """
+import itertools
 import os
 import re
 import sys
@@ -10,8 +11,9 @@ import sys
 OTHER_REASONS = [
     (r'has no `Need-', 'the proof file does not fit the edited code'),
     (r'has no field', 'the proof file does not fit the edited code'),
-    (r'expected type `tie\.Need-', 'the proof file does not fit the edited code'),
-    (r'not in scope|unknown-name|cannot find', 'a name is missing'),
+    (r'expected type `tie\.', 'the proof file does not fit the edited code'),
+    (r'has no `Tie`', 'the edited function is not of a form that a proof file answers'),
+    (r'(is )?not in scope|unknown-name|cannot find', 'a name is missing'),
     (r'[Pp]arse|syntax|is neither', 'the edited file does not parse'),
 ]
 
@@ -22,14 +24,16 @@ LEFT = 'it is not proved that'
 
 def reason(log):
     """Why a log does not show a failed fact, or None where it does."""
-    # a long message is wrapped, and what it says of a name may stand in its second line
-    lines = re.sub(r'\n +(?=has no |is not in scope)', ' ', log).split('\n')
-    first = next((line for line in lines if 'error' in line and FOLLOWS not in line), None)
-    if first is None:
+    lines = log.split('\n')
+    at = next((i for i, line in enumerate(lines) if 'error' in line and FOLLOWS not in line), None)
+    if at is None:
         return None if any(LEFT in line for line in lines) else 'the log shows no fact that fails'
+    # a long message is wrapped, and what it says of a name or a type may begin a further line
+    further = itertools.takewhile(lambda line: line.startswith('  '), lines[at + 1:])
+    starts = [line.strip() for line in further]
     for pattern, why in OTHER_REASONS:
-        if re.search(pattern, first):
-            return '%s: %s' % (why, first[:300])
+        if re.search(pattern, lines[at]) or any(re.match(pattern, start) for start in starts):
+            return '%s: %s' % (why, lines[at][:300])
     return None
 
 

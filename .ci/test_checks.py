@@ -41,12 +41,15 @@ def citations():
 
 def logs():
     expect('a failed fact', refusals.reason('note\np/Proof.antt:1:2: error: `returns`: expected type `a ≡ b`, but this has type `a ≡ c`\n') is None)
+    expect('a failed fact in several lines', refusals.reason('p/Proof.antt:1:2: error: `returns`: the two types differ where one has `a`\n  (expected) and the other `c` (found)\n  expected type `a ≡ b`, but this has type `c ≡ b`\n') is None)
     expect('a failed sum', refusals.reason('p/Proof.antt:1:2: error: `add-i`: `omega`: the goal does not follow from what it read\n') is None)
     expect('a fact that the search leaves', refusals.reason('p/Proof.antt:1:2: error: `f-spec`: `close` was not admitted\nnote: src/lib.rt:1:1: it is not proved that what the function ensures holds\n') is None)
     for log in [
         '',
         'p/Proof.antt:1:2: error: `x` has no `Need-add-i` that can be named from here\n',
         'p/Proof.antt:1:2: error: `f-spec`: expected type `tie.Need-shl`, but this has type `tie.Need-returns`\n',
+        'p/Proof.antt:1:2: error: `at`: the two types differ where one has `Lts.After-i`\n  (expected) and the other `Lts.After-k` (found)\n  expected type `tie.After-i`, but this has type `Lts.After-k`\n',
+        'p/Proof.antt:1:2: error: module `x.proofs.f` has no `Tie` that can be named from here\n',
         'p/Proof.antt:1:2: error: `returns`: record `Lts.After-wr-of` has no field `rd-of`\n',
         'p/Proof.antt:1:2: error: `returns`: record `Lts.After-wr-of`\n  has no field `rd-of`\n',
         'src/lib.rt:1:2: error[unknown-name]: cannot find value `x` in this scope\n',
