@@ -1,4 +1,6 @@
 """The checks of the gate, tried on small inputs that they must tell apart."""
+import contextlib
+import io
 import os
 import sys
 import tempfile
@@ -16,10 +18,10 @@ def expect(what, holds):
         FAILED.append(what)
 
 
-def write(root, path, text):
+def write(root, path, text, mode='w'):
     whole = os.path.join(root, path)
     os.makedirs(os.path.dirname(whole), exist_ok=True)
-    with open(whole, 'w', encoding='utf-8') as opened:
+    with open(whole, mode, encoding='utf-8') as opened:
         opened.write(text)
 
 
@@ -126,11 +128,22 @@ def allowed():
     expect('lent fields', writes.wrong('registers', 'fn acknowledge(r: &mut Fields) { r.gerrorn = 1; }') == [])
 
 
+def folders():
+    """Each name of the table is one function's: a second of that name would have its stores too."""
+    with tempfile.TemporaryDirectory() as root, contextlib.redirect_stdout(io.StringIO()):
+        for (crate, name), count in writes.STORES.items():
+            write(root, crate + '/src/lib.rt', 'fn %s(kept: &mut [u64]) { %s }\n' % (name, 'kept[0] = 1; ' * count), 'a')
+        expect('the functions of the table', writes.main(root) == 0)
+        write(root, 'steps/src/more.rt', 'fn step(kept: &mut [u64]) { kept[0] = 1; kept[1] = 1; kept[2] = 1; }\n')
+        expect('a second step', writes.main(root) == 1)
+
+
 citations()
 logs()
 stores()
 evasions()
 allowed()
+folders()
 for what in FAILED:
     print('test_checks: ' + what)
 print('test_checks: %d wrong' % len(FAILED))
