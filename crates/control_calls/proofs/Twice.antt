@@ -10,7 +10,7 @@ use Rattle.words.specs.Choice.{pick}
 use Rattle.words.proofs.Parts.{put-again}
 use Rattle.words.proofs.Truth.{left, and-true}
 use Rattle.indexes.specs.Indexes as indexes
-use Rattle.control.specs.Control.{rdBits, log2sizeBits, rd, log2size, distance}
+use Rattle.control.specs.Control.{rdBits, wrBits, cmdqenBits, log2sizeBits, rd, log2size, distance}
 use Rattle.control.proofs.Formed.{Formed}
 use Rattle.control_stores.specs.Stores.{mayRing, rung, switched}
 use Rattle.control_stores.proofs.AfterStores.{rung-keeps, rung-sets}
@@ -18,7 +18,7 @@ use Rattle.control_stores.proofs.AfterStores.{rung-keeps, rung-sets}
 module _ (w : ℕ) where
   pub rung-again : (v : ℕ) → rung (rung w v) v ≡ rung w v
   unfolding rung
-  rung-again v = put-again 39 20 (omega arith) v w
+  rung-again v = put-again wrBits v w tt
 
   -- and the doorbell's test passes again: the distance is the new one already
   pub may-ring-again : (v : ℕ) → Formed w → mayRing w v ≡ true → mayRing (rung w v) v ≡ true
@@ -34,4 +34,4 @@ module _ (w : ℕ) where
 
   pub switched-again : (on : Bool) → switched (switched w on) on ≡ switched w on
   unfolding switched
-  switched-again on = put-again 49 49 (omega arith) (pick on 1 0) w
+  switched-again on = put-again cmdqenBits (pick on 1 0) w tt

@@ -2,6 +2,7 @@
 -- Assumes nothing.
 use mathlib.Core.Path.{_≡_, refl, sym, ap, ap₂, _∙_, subst}
 use mathlib.Core.Bool.{Bool, true, false, not, _&&_}
+use mathlib.Core.List.{List, [], _∷_}
 use Prim.Native.Nat.{ℕ, _+_, _-_, _^_, _≤_, _<_}
 use native.Mathlib.Nat.{lt-of-lt-of-le}
 use native.Mathlib.Omega.{arith}
@@ -10,13 +11,17 @@ use lib.Pow.{pow-mono}
 use borrow.Author.Tests.{eq-eqb, ne-eqb, eqb-true, eqb-false, not-false}
 use Rattle.words.specs.Choice.{pick}
 use Rattle.words.specs.Ranges.{Range, get, set}
-use Rattle.words.proofs.Parts.{apart, keeps, reads-back, part-lt}
+use Rattle.words.proofs.Parts.{apart, keeps, reads-back, part-lt, allApart, puts-keep}
 use Rattle.words.proofs.Truth.{left, clash}
 use Rattle.indexes.specs.Indexes as indexes
 use Rattle.indexes.proofs.Laws as indexed
 use Rattle.control.specs.Control.{rdBits, wrBits, errBits, gerrorBits, gerrornBits, cmdqenBits, log2sizeBits, zeroBits, rd, wr, err, gerror, gerrorn, cmdqen, log2size, active, distance, wellFormed}
 use Rattle.control_stores.specs.Stores.{consumed, raised, mayRing, rung, acknowledged, switched}
 use Rattle.control.proofs.Formed.{Formed, formed, is-formed}
+
+-- the parts that raising the error touches
+abbrev pub raises : List Range
+raises = errBits ∷ gerrorBits ∷ []
 
 -- an index in range fits its part
 index-fits : (w i : ℕ) → Formed w → i < indexes.turn (log2size w) → i < 2 ^ 20
@@ -36,7 +41,7 @@ module _ (w : ℕ) where
   pub consumed-sets : Formed w → rd (consumed w) ≡ indexes.next (log2size w) (rd w)
   unfolding consumed
   consumed-sets f =
-      reads-back 19 0 (indexes.next (log2size w) (rd w)) w (omega arith)
+      reads-back rdBits (indexes.next (log2size w) (rd w)) w tt
       (index-fits w (indexes.next (log2size w) (rd w)) f (indexed.next-lt (log2size w) (rd w)))
 
   pub consumed-formed : Formed w → (rd w ≡ wr w → ⊥) → Formed (consumed w)
@@ -52,25 +57,25 @@ module _ (w : ℕ) where
       }
 
   -- raising
-  pub raised-keeps : (r : Range) → T (apart errBits r) → T (apart gerrorBits r) → get r (raised w) ≡ get r w
+  pub raised-keeps : (r : Range) → T (allApart raises r) → get r (raised w) ≡ get r w
   unfolding raised
-  raised-keeps r t u = keeps gerrorBits (1 - gerror w) (set errBits 1 w) r u ∙ keeps errBits 1 w r t
+  raised-keeps r t = puts-keep (record { at = errBits; value = 1 } ∷ record { at = gerrorBits; value = 1 - gerror w } ∷ []) w r t
 
   pub raised-err : err (raised w) ≡ 1
   unfolding raised
-  raised-err = keeps gerrorBits (1 - gerror w) (set errBits 1 w) errBits tt ∙ reads-back 46 40 1 w (omega arith) (lit< tt)
+  raised-err = keeps gerrorBits (1 - gerror w) (set errBits 1 w) errBits tt ∙ reads-back errBits 1 w tt (lit< tt)
 
   pub raised-flips : gerror (raised w) ≡ 1 - gerror w
   unfolding raised
-  raised-flips = reads-back 47 47 (1 - gerror w) (set errBits 1 w) (omega arith) (omega arith)
+  raised-flips = reads-back gerrorBits (1 - gerror w) (set errBits 1 w) tt (omega arith)
 
   pub raised-formed : Formed w → Formed (raised w)
   raised-formed f =
-      let n = raised-keeps log2sizeBits tt tt in
+      let n = raised-keeps log2sizeBits tt in
       record {
-        zeroes = raised-keeps zeroBits tt tt ∙ f .zeroes;
+        zeroes = raised-keeps zeroBits tt ∙ f .zeroes;
         small = rw n (f .small);
-        waiting = rw (n, raised-keeps rdBits tt tt, raised-keeps wrBits tt tt) (f .waiting);
+        waiting = rw (n, raised-keeps rdBits tt, raised-keeps wrBits tt) (f .waiting);
         known = rw raised-err (omega arith);
         told = λ on. raised-err;
       }
@@ -82,7 +87,7 @@ module _ (w : ℕ) where
       let same : gerror w ≡ gerrorn w = eqb-true (gerror w) (gerrorn w) (not-false (eqb (gerror w) (gerrorn w)) e) in
       ap not
       (ne-eqb (gerror (raised w)) (gerrorn (raised w))
-      (λ q. omega (arith, q, raised-flips, raised-keeps gerrornBits tt tt, same, part-lt 47 47 w)))
+      (λ q. omega (arith, q, raised-flips, raised-keeps gerrornBits tt, same, part-lt 47 47 w)))
 
   -- ringing
   pub rung-keeps : (v : ℕ) (r : Range) → T (apart wrBits r) → get r (rung w v) ≡ get r w
@@ -98,7 +103,7 @@ module _ (w : ℕ) where
 
   pub rung-sets : (v : ℕ) → Formed w → mayRing w v ≡ true → wr (rung w v) ≡ v
   unfolding rung
-  rung-sets v f e = reads-back 39 20 v w (omega arith) (index-fits w v f (may-ring v e .wr-in))
+  rung-sets v f e = reads-back wrBits v w tt (index-fits w v f (may-ring v e .wr-in))
 
   pub rung-formed : (v : ℕ) → Formed w → mayRing w v ≡ true → Formed (rung w v)
   rung-formed v f e =
@@ -119,7 +124,7 @@ module _ (w : ℕ) where
 
   pub acknowledged-sets : gerrorn (acknowledged w) ≡ gerror w
   unfolding acknowledged
-  acknowledged-sets = reads-back 48 48 (gerror w) w (omega arith) (part-lt 47 47 w)
+  acknowledged-sets = reads-back gerrornBits (gerror w) w tt (part-lt 47 47 w)
 
   pub acknowledged-quiet : active (acknowledged w) ≡ false
   unfolding active
@@ -144,8 +149,8 @@ module _ (w : ℕ) where
 
   pub switched-sets : (on : Bool) → cmdqen (switched w on) ≡ pick on 1 0
   unfolding switched
-  switched-sets true = reads-back 49 49 1 w (omega arith) (lit< tt)
-  switched-sets false = reads-back 49 49 0 w (omega arith) (lit< tt)
+  switched-sets true = reads-back cmdqenBits 1 w tt (lit< tt)
+  switched-sets false = reads-back cmdqenBits 0 w tt (lit< tt)
 
   pub switched-formed : (on : Bool) → Formed w → Formed (switched w on)
   switched-formed on f =

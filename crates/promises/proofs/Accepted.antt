@@ -6,12 +6,14 @@ use Prim.Native.Nat.{ℕ}
 use lib.ListN.{length}
 use Rattle.control.proofs.Formed as control-formed
 use Rattle.control.proofs.Openness.{open-waits}
-use Rattle.control_stores.proofs.AfterStores.{consumed-formed, raised-formed}
+use Rattle.control_stores.proofs.AfterStores.{raised-formed}
 use Rattle.commands.specs.declared.Features.{Features}
+use Rattle.commands.specs.declared.Decoded.the-variants.{Legal}
 use Rattle.image.specs.Image.{rowsIn, controlOf}
 use Rattle.image.proofs.Checks.{Accepts, rows-are}
 use Rattle.image.proofs.AfterStores.{control-stored, row-cleared}
 use Rattle.steps.specs.Due.{What}
+use Rattle.steps.proofs.Consuming.{after-formed}
 use Rattle.runs.specs.Running.{Next, stores, dueIn, run}
 use Rattle.promises.proofs.Cases.{Case, removes, consumes, raises, IsDue, is-due}
 use Rattle.promises.proofs.Sums.{run-keeps}
@@ -23,7 +25,7 @@ module _ (f : Features) (queue : List ℕ) (n : ℕ) where
   by-case m m′ w a d (consumes c legal nothing what stored) =
       let formed = control-formed.formed (controlOf m) (a .control-formed) in
       rw stored
-      (control-stored m n a _ (control-formed.is-formed _ (consumed-formed (controlOf m) formed (open-waits (controlOf m) (d .open-for-it)))))
+      (control-stored m n a _ (control-formed.is-formed _ (after-formed (Legal c) (controlOf m) formed (open-waits (controlOf m) (d .open-for-it)))))
   by-case m m′ w a d (raises illegal what stored) =
       let formed = control-formed.formed (controlOf m) (a .control-formed) in
       rw stored (control-stored m n a _ (control-formed.is-formed _ (raised-formed (controlOf m) formed)))

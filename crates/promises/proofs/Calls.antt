@@ -12,7 +12,7 @@ use lib.Seq.{getD-set-same}
 use Rattle.words.specs.Outcomes.{Outcome}
 use Rattle.control.specs.Control as control
 use Rattle.control_stores.specs.Stores as control-stores
-use Rattle.control_stores.proofs.AfterStores.{consumed-keeps, raised-keeps}
+use Rattle.control_stores.proofs.AfterStores.{raised-keeps}
 use Rattle.commands.specs.declared.Features.{Features}
 use Rattle.commands.specs.declared.Decoded.the-variants.{Legal}
 use Rattle.image.specs.declared.Checked.{Checked}
@@ -21,6 +21,7 @@ use Rattle.image.specs.Image.{check, controlOf}
 use Rattle.image.proofs.Checks.{Accepts, accepts, says}
 use Rattle.image.proofs.AfterStores.{cleared-control}
 use Rattle.steps.specs.Due.{What, afterCommand}
+use Rattle.steps.proofs.Consuming.{after-keeps}
 use Rattle.runs.specs.declared.RunRefusal.{RunRefusal}
 use Rattle.runs.specs.declared.RunRefusal.the-variants.{Image, BadQueue}
 use Rattle.runs.specs.declared.RunAnswer.{RunAnswer}
@@ -46,10 +47,10 @@ module _ (f : Features) (queue : List ℕ) where
     size-kept m m′ w s (removes c i legal low what stored) = rw (stored, cleared-control m i) (s .same)
     size-kept m m′ w s (consumes c legal nothing what stored) =
         let v = afterCommand (Legal c) (controlOf m) in
-        rw (stored, getD-set-same m 0 v 0 (omega (arith, s .image .size .words))) (consumed-keeps (controlOf m) control.log2sizeBits tt ∙ s .same)
+        rw (stored, getD-set-same m 0 v 0 (omega (arith, s .image .size .words))) (after-keeps (Legal c) (controlOf m) control.log2sizeBits tt ∙ s .same)
     size-kept m m′ w s (raises illegal what stored) =
         let v = control-stores.raised (controlOf m) in
-        rw (stored, getD-set-same m 0 v 0 (omega (arith, s .image .size .words))) (raised-keeps (controlOf m) control.log2sizeBits tt tt ∙ s .same)
+        rw (stored, getD-set-same m 0 v 0 (omega (arith, s .image .size .words))) (raised-keeps (controlOf m) control.log2sizeBits tt ∙ s .same)
 
     each-keeps : (m m′ : List ℕ) (w : What) → Sized n size m → dueIn f queue m ≡ stores w m′ → Sized n size m′
     each-keeps m m′ w s e =

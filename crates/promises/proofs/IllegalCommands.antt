@@ -7,7 +7,7 @@ use Prim.Native.Nat.{ℕ, zero, suc, _<_}
 use native.Mathlib.Omega.{arith}
 use lib.Dec.{T, eqb}
 use Rattle.words.specs.Ranges.{Range, get}
-use Rattle.words.proofs.Parts.{apart}
+use Rattle.words.proofs.Parts.{apart, allApart}
 use lib.ListN.{length, set}
 use lib.Seq.{getD-set-same}
 use borrow.Author.Tests.{eq-eqb, ne-eqb}
@@ -16,7 +16,7 @@ use Rattle.control.specs.declared.Rest.the-variants.{Off as Rest·Off, Held as 
 use Rattle.control.specs.declared.Standing.the-variants.{Resting, Open}
 use Rattle.control.proofs.Openness.{open-enabled, open-quiet, open-waits}
 use Rattle.control_stores.specs.Stores as control-stores
-use Rattle.control_stores.proofs.AfterStores.{raised-keeps, raised-active, acknowledged-keeps, acknowledged-quiet, rung-keeps, switched-keeps, same-active}
+use Rattle.control_stores.proofs.AfterStores.{raises, raised-keeps, raised-active, acknowledged-keeps, acknowledged-quiet, rung-keeps, switched-keeps, same-active}
 use Rattle.commands.specs.declared.Features.{Features}
 use Rattle.commands.specs.declared.Decoded.the-variants.{Illegal}
 use Rattle.commands.specs.Decoding.{decodeAt}
@@ -74,7 +74,7 @@ switch-keeps-error w on = same-active w (control-stores.switched w on) (switched
 module _ (w : ℕ) where
   pub raised-slot : control.slot (control-stores.raised w) ≡ control.slot w
   unfolding control.slot
-  raised-slot = rw (raised-keeps w control.log2sizeBits tt tt, raised-keeps w control.rdBits tt tt)
+  raised-slot = rw (raised-keeps w control.log2sizeBits tt, raised-keeps w control.rdBits tt)
 
   pub same-slot : control.slot (control-stores.acknowledged (control-stores.raised w)) ≡ control.slot w
   unfolding control.slot
@@ -85,12 +85,12 @@ module _ (w : ℕ) where
   reopens : control.standing w ≡ Open → control.standing (control-stores.acknowledged (control-stores.raised w)) ≡ Open
   reopens on =
       let r = control-stores.raised w in
-      let kept : (b : Range) → T (apart control.gerrornBits b) → T (apart control.errBits b) → T (apart control.gerrorBits b)
-      → get b (control-stores.acknowledged r) ≡ get b w = λ b x y z. acknowledged-keeps r b x ∙ raised-keeps w b y z in
+      let kept : (b : Range) → T (apart control.gerrornBits b) → T (allApart raises b) → get b (control-stores.acknowledged r) ≡ get b w =
+      λ b x y. acknowledged-keeps r b x ∙ raised-keeps w b y in
       opens (control-stores.acknowledged r)
-      (λ e. open-enabled w on (sym (kept control.cmdqenBits tt tt tt) ∙ e))
+      (λ e. open-enabled w on (sym (kept control.cmdqenBits tt tt) ∙ e))
       (acknowledged-quiet r)
-      (λ e. open-waits w on (sym (kept control.rdBits tt tt tt) ∙ e ∙ kept control.wrBits tt tt tt))
+      (λ e. open-waits w on (sym (kept control.rdBits tt tt) ∙ e ∙ kept control.wrBits tt tt))
 
 -- after acknowledging, the same illegal command raises again
 pub raises-again : (f : Features) (queue m : List ℕ) (k : ℕ) → 0 < length m → control.standing (controlOf m) ≡ Open → atRd f queue m ≡ Illegal

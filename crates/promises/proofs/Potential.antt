@@ -3,27 +3,27 @@
 use mathlib.Core.Path.{_≡_, refl, sym, ap, _∙_}
 use mathlib.Core.Bool.{Bool, true, false, not}
 use mathlib.Core.List.{List}
-use Prim.Native.Nat.{ℕ, zero, suc, _+_, _*_, _≤_, _<_}
+use Prim.Native.Nat.{ℕ, zero, suc, _+_, _≤_, _<_}
 use native.Mathlib.Omega.{arith}
 use lib.ListN.{length, set}
 use lib.Seq.{getD-set-same}
 use Rattle.words.proofs.Truth.{clash}
-use Rattle.indexes.specs.Indexes as indexes
-use Rattle.indexes.proofs.Laws as indexed
 use Rattle.control.specs.Control as control
 use Rattle.control.proofs.Formed as control-formed
 use Rattle.control.proofs.Openness.{open-waits}
 use Rattle.control_stores.specs.Stores as control-stores
-use Rattle.control_stores.proofs.AfterStores.{consumed-sets, consumed-keeps}
 use Rattle.commands.specs.declared.Features.{Features}
 use Rattle.commands.specs.declared.Command.{Command}
+use Rattle.commands.specs.declared.Decoded.the-variants.{Legal, Illegal}
 use Rattle.scopes.proofs.Laws.{scoped}
 use Rattle.image.specs.Image.{rowsIn, controlOf, rowAt, isUsed, usedRows}
 use Rattle.image.proofs.Checks.{Accepts, rows-are}
 use Rattle.image.proofs.AfterStores.{cleared, cleared-control, used-kept, used-cleared}
-use Rattle.steps.specs.Due.{What, Remove, Consume, Raise, scopedAt}
+use Rattle.steps.specs.Due.{What, Remove, Consume, Raise, scopedAt, afterCommand}
+use Rattle.steps.proofs.Consuming.{after-distance}
 use Rattle.runs.specs.declared.End.the-variants.{Cut}
 use Rattle.runs.specs.Running.{Out, Next, rests, stores, rested, plus, last, next, runBy, dueIn, run}
+use Rattle.promises.specs.Places.{word0}
 use Rattle.promises.specs.Sums.{removedBy}
 use Rattle.promises.proofs.Cases.{Case, removes, consumes, raises, IsDue, is-due}
 use Rattle.promises.proofs.Resume.{rest-uncut}
@@ -73,19 +73,6 @@ module _ {M : Type 0} (f : M → Next M) (P : M → Type 0) (keep : (m m′ : M)
   never-cut zero m p h cut = uncut-last m (f m) refl p h cut
   never-cut (suc k) m p h cut = uncut-next k m (f m) refl p h (λ m′ q l. never-cut k m′ q l) cut
 
--- one command fewer waits once it is consumed
-pub consumed-distance : (w : ℕ) → control-formed.Formed w → (control.rd w ≡ control.wr w → ⊥) → control.distance w ≡ suc (control.distance (control-stores.consumed w))
-unfolding control.distance
-consumed-distance w formed waits = by-distance (indexes.distance (control.log2size w) (control.rd w) (control.wr w)) refl
-  where
-    by-distance : (d : ℕ) → indexes.distance (control.log2size w) (control.rd w) (control.wr w) ≡ d
-        → indexes.distance (control.log2size w) (control.rd w) (control.wr w)
-        ≡ suc (indexes.distance (control.log2size (control-stores.consumed w)) (control.rd (control-stores.consumed w)) (control.wr (control-stores.consumed w)))
-    by-distance zero e = absurd (waits (indexed.none-waits (control.log2size w) (control.rd w) (control.wr w) (formed .waiting .rd-in) (formed .waiting .wr-in) e))
-    by-distance (suc d) e =
-        rw (consumed-keeps w control.log2sizeBits tt, consumed-sets w formed, consumed-keeps w control.wrBits tt)
-        (e ∙ ap suc (sym (indexed.distance-next (control.log2size w) (control.rd w) (control.wr w) d e)))
-
 module _ (f : Features) (queue : List ℕ) (n : ℕ) where
   scoped-used : (c : Command) (m : List ℕ) (i : ℕ) → scopedAt f c m i ≡ true → isUsed m i ≡ true
   unfolding scopedAt isUsed
@@ -98,19 +85,20 @@ module _ (f : Features) (queue : List ℕ) (n : ℕ) where
 
   by-case : (m m′ : List ℕ) (w : What) → Accepts m n → IsDue f queue m w m′ → Case f queue m w m′ → Moves m m′ w
   by-case m m′ w a d (removes c i legal low what stored) =
-      let room : 4 * i + 1 < length m = omega (arith, a .size .words, low .below, rows-are m n (a .size)) in
+      let room : word0 i < length m = omega (arith, a .size .words, low .below, rows-are m n (a .size)) in
       let one = used-cleared m n i (rw (rows-are m n (a .size)) at (low .below)) room (scoped-used c m i (low .passes)) in
       rw (stored, what) (record { used = omega (arith, one); some = omega (arith, one); fewer = λ on. rw (cleared-control m i) (omega (arith, one)) })
   by-case m m′ w a d (consumes c legal nothing what stored) =
       let formed = control-formed.formed (controlOf m) (a .control-formed) in
-      let same = used-kept m n 0 (control-stores.consumed (controlOf m)) (λ i h e. omega arith) in
-      let word = getD-set-same m 0 (control-stores.consumed (controlOf m)) 0 (omega (arith, a .size .words)) in
-      let less = consumed-distance (controlOf m) formed (open-waits (controlOf m) (d .open-for-it)) in
+      let v = afterCommand (Legal c) (controlOf m) in
+      let same = used-kept m n 0 v (λ i h e. omega arith) in
+      let word = getD-set-same m 0 v 0 (omega (arith, a .size .words)) in
+      let less = after-distance (Legal c) (controlOf m) formed (open-waits (controlOf m) (d .open-for-it)) in
       rw (stored, what) (record { used = omega (arith, same); some = omega (arith, less); fewer = λ on. rw word (omega (arith, same, less)) })
   by-case m m′ w a d (raises illegal what stored) =
       let formed = control-formed.formed (controlOf m) (a .control-formed) in
       let same = used-kept m n 0 (control-stores.raised (controlOf m)) (λ i h e. omega arith) in
-      let less = consumed-distance (controlOf m) formed (open-waits (controlOf m) (d .open-for-it)) in
+      let less = after-distance Illegal (controlOf m) formed (open-waits (controlOf m) (d .open-for-it)) in
       rw (stored, what) (record { used = omega (arith, same); some = omega (arith, less); fewer = λ on. clash on refl })
 
   moves : (m m′ : List ℕ) (w : What) → Accepts m n → dueIn f queue m ≡ stores w m′ → Moves m m′ w

@@ -88,7 +88,7 @@ module _ (f : Features) (queue : List ℕ) (n : ℕ) where
           let on = is-due f queue m Raise m′ e .open-for-it in
           let word : controlOf m′ ≡ control-stores.raised w = ap controlOf stored ∙ getD-set-same m 0 (control-stores.raised w) 0 (omega (arith, a .size .words)) in
           record {
-            enabled = λ z. open-enabled w on (sym (raised-keeps w control.cmdqenBits tt tt) ∙ ap control.cmdqen (sym word) ∙ z);
+            enabled = λ z. open-enabled w on (sym (raised-keeps w control.cmdqenBits tt) ∙ ap control.cmdqen (sym word) ∙ z);
             in-error = ap control.active word ∙ raised-active w (open-quiet w on);
             code = ap control.err word ∙ raised-err w;
             illegal = ap (λ (x : ℕ). decodeAt f queue (control.slot x)) word ∙ ap (λ (s : ℕ). decodeAt f queue s) (raised-slot w) ∙ illegal;

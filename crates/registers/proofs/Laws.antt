@@ -7,10 +7,10 @@ use Prim.Native.Nat.{ℕ, _^_, _<_}
 use native.Mathlib.Omega.{arith}
 use lib.Dec.{eqb}
 use Rattle.words.specs.Choice.{pick}
-use Rattle.words.proofs.Parts.{part-lt, put-lt}
+use Rattle.words.proofs.Parts.{part-lt, set-lt}
 use Rattle.words.proofs.Truth.{left, right, and-true, clash}
 use Rattle.control.specs.declared.Fields.{Fields}
-use Rattle.control.specs.Control.{rdBits, wrBits, errBits, gerrorBits, cmdqenBits, log2sizeBits, zeroBits, gerror, gerrorn, fieldsOf, active, wellFormed}
+use Rattle.control.specs.Control.{gerrornBits, rdBits, wrBits, errBits, gerrorBits, cmdqenBits, log2sizeBits, zeroBits, gerror, gerrorn, fieldsOf, active, wellFormed}
 use Rattle.control_stores.specs.Stores.{acknowledged}
 use Rattle.control.proofs.Formed as control
 use Rattle.control_stores.proofs.AfterStores.{acknowledged-keeps, acknowledged-sets, acknowledged-quiet, acknowledged-formed}
@@ -149,7 +149,7 @@ module _ (f : Fields) (p : fits f ≡ true) where
 
   stored-lt : acknowledged w < 2 ^ 64
   unfolding acknowledged
-  stored-lt = put-lt 48 48 (omega arith) (gerror w) w (packed-lt f) (omega arith)
+  stored-lt = set-lt gerrornBits (gerror w) w tt (packed-lt f)
 
   -- GERRORN made equal to GERROR in the fields is the store to the word
   pub same-store : packed (withGerrorn (f .gerror) f) ≡ acknowledged w

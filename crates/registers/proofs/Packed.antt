@@ -2,6 +2,7 @@
 -- Assumes nothing.
 use mathlib.Core.Path.{_≡_, refl, sym, ap, _∙_}
 use mathlib.Core.Bool.{Bool, true, _&&_}
+use mathlib.Core.List.{[], _∷_}
 use Prim.Native.Nat.{ℕ, _+_, _-_, _/_, _%_, _^_, _≤_, _<_}
 use native.Mathlib.Nat.{mod-lt, mod-eq-of-lt, mod-one, div-eq-of-lt, lt-of-lt-of-le, zero-mul, zero-add}
 use native.Mathlib.Omega.{arith}
@@ -9,12 +10,12 @@ use lib.Dec.{T, lit<}
 use lib.Pow.{pow-pos, pow-mono, mod-pow-add}
 use borrow.Author.Tests.{ltb-true, lt-ltb}
 use Rattle.words.specs.Parts.{part, put}
-use Rattle.words.specs.Ranges.{Range, get, set}
-use Rattle.words.proofs.Parts.{apart, keeps, reads-back, put-lt}
+use Rattle.words.specs.Ranges.{Range, get, set, Field}
+use Rattle.words.proofs.Parts.{puts-keep, puts-read, puts-lt}
 use Rattle.words.proofs.Truth.{left, right, and-true}
 use Rattle.control.specs.declared.Fields.{Fields}
 use Rattle.control.specs.Control.{rdBits, wrBits, errBits, gerrorBits, gerrornBits, cmdqenBits, log2sizeBits, zeroBits, fieldsOf}
-use Rattle.registers.specs.Registers.{packed, fitsIn, fits}
+use Rattle.registers.specs.Registers.{inParts, packed, fitsIn, fits}
 
 -- what fitting says, field by field
 pub record Fit (f : Fields) : Type 0 where
@@ -78,77 +79,36 @@ module _ (f : Fields) where
       (lt-ltb (f .cmdqen) 2 (h .cmdqen)))
       (lt-ltb (f .log2size) (2 ^ 5) (h .log2size))
 
-  -- the word as it grows, part by part
-  abbrev w₁ : ℕ
-  w₁ = set rdBits (f .rd) 0
-
-  abbrev w₂ : ℕ
-  w₂ = set wrBits (f .wr) w₁
-
-  abbrev w₃ : ℕ
-  w₃ = set errBits (f .err) w₂
-
-  abbrev w₄ : ℕ
-  w₄ = set gerrorBits (f .gerror) w₃
-
-  abbrev w₅ : ℕ
-  w₅ = set gerrornBits (f .gerrorn) w₄
-
-  abbrev w₆ : ℕ
-  w₆ = set cmdqenBits (f .cmdqen) w₅
-
-  -- a range apart from the parts that come later is as they found it
-  after₆ : (r : Range) → T (apart log2sizeBits r) → get r (packed f) ≡ get r w₆
-  unfolding packed
-  after₆ r t = keeps log2sizeBits (f .log2size) w₆ r t
-
-  after₅ : (r : Range) → T (apart log2sizeBits r) → T (apart cmdqenBits r) → get r (packed f) ≡ get r w₅
-  after₅ r t u = after₆ r t ∙ keeps cmdqenBits (f .cmdqen) w₅ r u
-
-  after₄ : (r : Range) → T (apart log2sizeBits r) → T (apart cmdqenBits r) → T (apart gerrornBits r) → get r (packed f) ≡ get r w₄
-  after₄ r t u v = after₅ r t u ∙ keeps gerrornBits (f .gerrorn) w₄ r v
-
-  after₃ : (r : Range) → T (apart log2sizeBits r) → T (apart cmdqenBits r) → T (apart gerrornBits r) → T (apart gerrorBits r) → get r (packed f) ≡ get r w₃
-  after₃ r t u v x = after₄ r t u v ∙ keeps gerrorBits (f .gerror) w₃ r x
-
-  after₂ : (r : Range) → T (apart log2sizeBits r) → T (apart cmdqenBits r) → T (apart gerrornBits r) → T (apart gerrorBits r) → T (apart errBits r) → get r (packed f) ≡ get r w₂
-  after₂ r t u v x y = after₃ r t u v x ∙ keeps errBits (f .err) w₂ r y
-
   -- nothing stands above LOG2SIZE
   pub packed-zero : get zeroBits (packed f) ≡ 0
-  unfolding part
-  packed-zero = after₂ zeroBits tt tt tt tt tt ∙ keeps wrBits (f .wr) w₁ zeroBits tt ∙ keeps rdBits (f .rd) 0 zeroBits tt ∙ refl
+  unfolding packed part
+  packed-zero = puts-keep (inParts f) 0 zeroBits tt ∙ refl
 
   pub packed-lt : packed f < 2 ^ 64
   unfolding packed
-  packed-lt =
-      put-lt 54 50 (omega arith) (f .log2size) w₆
-      (put-lt 49 49 (omega arith) (f .cmdqen) w₅
-      (put-lt 48 48 (omega arith) (f .gerrorn) w₄
-      (put-lt 47 47 (omega arith) (f .gerror) w₃
-      (put-lt 46 40 (omega arith) (f .err) w₂
-      (put-lt 39 20 (omega arith) (f .wr) w₁
-      (put-lt 19 0 (omega arith) (f .rd) 0 (lit< tt) (omega arith))
-      (omega arith))
-      (omega arith))
-      (omega arith))
-      (omega arith))
-      (omega arith))
-      (omega arith)
+  packed-lt = puts-lt (inParts f) 0 tt (lit< tt)
 
   -- fields that fit come back
   pub unpacked : fits f ≡ true → fieldsOf (packed f) ≡ f
   unfolding fieldsOf packed
   unpacked p =
       let h = fit p in
+      let field : Range → ℕ → Field = λ r v. record { at = r; value = v } in
+      let rd = field rdBits (f .rd) in
+      let wr = field wrBits (f .wr) in
+      let err = field errBits (f .err) in
+      let gerror = field gerrorBits (f .gerror) in
+      let gerrorn = field gerrornBits (f .gerrorn) in
+      let cmdqen = field cmdqenBits (f .cmdqen) in
+      let size = field log2sizeBits (f .log2size) in
       rw (
-        after₂ rdBits tt tt tt tt tt ∙ keeps wrBits (f .wr) w₁ rdBits tt ∙ reads-back 19 0 (f .rd) 0 (omega arith) (h .rd),
-        after₂ wrBits tt tt tt tt tt ∙ reads-back 39 20 (f .wr) w₁ (omega arith) (h .wr),
-        after₃ errBits tt tt tt tt ∙ reads-back 46 40 (f .err) w₂ (omega arith) (h .err),
-        after₄ gerrorBits tt tt tt ∙ reads-back 47 47 (f .gerror) w₃ (omega arith) (h .gerror),
-        after₅ gerrornBits tt tt ∙ reads-back 48 48 (f .gerrorn) w₄ (omega arith) (h .gerrorn),
-        after₆ cmdqenBits tt ∙ reads-back 49 49 (f .cmdqen) w₅ (omega arith) (h .cmdqen),
-        reads-back 54 50 (f .log2size) w₆ (omega arith) (h .log2size),
+        puts-read [] rd (wr ∷ err ∷ gerror ∷ gerrorn ∷ cmdqen ∷ size ∷ []) 0 tt tt (h .rd),
+        puts-read (rd ∷ []) wr (err ∷ gerror ∷ gerrorn ∷ cmdqen ∷ size ∷ []) 0 tt tt (h .wr),
+        puts-read (rd ∷ wr ∷ []) err (gerror ∷ gerrorn ∷ cmdqen ∷ size ∷ []) 0 tt tt (h .err),
+        puts-read (rd ∷ wr ∷ err ∷ []) gerror (gerrorn ∷ cmdqen ∷ size ∷ []) 0 tt tt (h .gerror),
+        puts-read (rd ∷ wr ∷ err ∷ gerror ∷ []) gerrorn (cmdqen ∷ size ∷ []) 0 tt tt (h .gerrorn),
+        puts-read (rd ∷ wr ∷ err ∷ gerror ∷ gerrorn ∷ []) cmdqen (size ∷ []) 0 tt tt (h .cmdqen),
+        puts-read (rd ∷ wr ∷ err ∷ gerror ∷ gerrorn ∷ cmdqen ∷ []) size [] 0 tt tt (h .log2size),
       )
 
 -- a part put on top of all that stands below it

@@ -3,9 +3,10 @@
 use mathlib.Core.Path.{_≡_}
 use mathlib.Core.Bool.{Bool, not, _&&_}
 use Prim.Native.Nat.{ℕ, _+_, _-_, _^_}
+use mathlib.Core.List.{List, [], _∷_}
 use lib.Dec.{ltb}
 use Rattle.words.specs.Choice.{pick}
-use Rattle.words.specs.Ranges.{Range, bits, set}
+use Rattle.words.specs.Ranges.{Range, bits, Field, puts}
 use Rattle.control.specs.declared.Fields.{Fields}
 use Rattle.control.specs.Control.{rdBits, wrBits, errBits, gerrorBits, gerrornBits, cmdqenBits, log2sizeBits, active, wellFormed}
 use Rattle.registers.specs.declared.RegistersRefusal.{RegistersRefusal}
@@ -25,15 +26,19 @@ given (Refused why) = number why
 given Acknowledged = 0
 
 -- the word that the fields make, each in its part; what a field has above that part's width is left out
+abbrev pub inParts : Fields → List Field
+inParts f =
+    record { at = rdBits; value = f .rd }
+    ∷ record { at = wrBits; value = f .wr }
+    ∷ record { at = errBits; value = f .err }
+    ∷ record { at = gerrorBits; value = f .gerror }
+    ∷ record { at = gerrornBits; value = f .gerrorn }
+    ∷ record { at = cmdqenBits; value = f .cmdqen }
+    ∷ record { at = log2sizeBits; value = f .log2size }
+    ∷ []
+
 unfoldable pub packed : Fields → ℕ
-packed f =
-    set log2sizeBits (f .log2size)
-    (set cmdqenBits (f .cmdqen)
-    (set gerrornBits (f .gerrorn)
-    (set gerrorBits (f .gerror)
-    (set errBits (f .err)
-    (set wrBits (f .wr)
-    (set rdBits (f .rd) 0))))))
+packed f = puts (inParts f) 0
 
 -- a number is no wider than a range of bits
 abbrev pub fitsIn : Range → ℕ → Bool

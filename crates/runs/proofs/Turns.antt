@@ -15,8 +15,6 @@ use Rattle.control.specs.Control as control
 use Rattle.control.specs.declared.Rest.{Rest}
 use Rattle.control.specs.declared.Standing.{Standing}
 use Rattle.control.specs.declared.Standing.the-variants.{Resting, Open}
-use Rattle.control_stores.specs.Stores as control-stores
-use Rattle.control_stores.proofs.AfterStores.{consumed-keeps}
 use Rattle.commands.specs.declared.Features.{Features}
 use Rattle.commands.specs.declared.Command.{Command}
 use Rattle.commands.specs.declared.Decoded.{Decoded}
@@ -26,9 +24,10 @@ use Rattle.image.specs.Image.{maxRows, rowsIn, controlOf}
 use Rattle.image.proofs.AfterStores.{cleared, cleared-control}
 use Rattle.steps.specs.declared.Stepped.{Stepped}
 use Rattle.steps.specs.declared.Stepped.the-variants.{Removed, Consumed, DidRaise}
-use Rattle.steps.specs.Due.{Due, Rests, Stores, scan, byScan, noneBelow, dueFor, due, Ready, Made}
+use Rattle.steps.specs.Due.{Due, Rests, Stores, scan, byScan, afterCommand, noneBelow, dueFor, due, Ready, Made}
 use Rattle.steps.proofs.Scans.{lowest-scoped, goes-on}
 use Rattle.steps.proofs.Asked.{Removes, due-removes}
+use Rattle.steps.proofs.Consuming.{after-keeps}
 use Rattle.runs.specs.declared.End.{End}
 use Rattle.runs.specs.declared.End.the-variants.{Raised, Cut}
 use Rattle.runs.specs.declared.Ran.{Ran}
@@ -248,8 +247,8 @@ module _ {M queue : List ℕ} {f : Features} {A : ℕ} {m₀ : List ℕ} {left�
         let t = rw e at made in
         let k = now .kept in
         let long : length m′ ≡ length m = ap length (t .stored) ∙ length-set m 0 _ in
-        let word : controlOf m′ ≡ control-stores.consumed (controlOf m) = ap controlOf (t .stored) ∙ getD-set-same m 0 _ 0 (omega (arith, k .room)) in
-        let size : control.log2size (controlOf m′) ≡ control.log2size (controlOf m) = ap control.log2size word ∙ consumed-keeps (controlOf m) control.log2sizeBits tt in
+        let word : controlOf m′ ≡ afterCommand d (controlOf m) = ap controlOf (t .stored) ∙ getD-set-same m 0 _ 0 (omega (arith, k .room)) in
+        let size : control.log2size (controlOf m′) ≡ control.log2size (controlOf m) = ap control.log2size word ∙ after-keeps d (controlOf m) control.log2sizeBits tt in
         record {
           kept = record {
             long = long ∙ k .long ∙ turns .kept .long;

@@ -2,10 +2,11 @@
 -- Assumes nothing.
 use mathlib.Core.Path.{_≡_}
 use mathlib.Core.Bool.{Bool}
-use mathlib.Core.List.{List}
+use mathlib.Core.List.{List, [], _∷_}
 use Prim.Native.Nat.{ℕ, _+_, _-_, _*_, _≤_}
 use lib.ListN.{length, set}
 use Rattle.words.specs.Choice.{pick}
+use Rattle.words.specs.Ranges.{Range}
 use Rattle.words.specs.Search.{lowest}
 use Rattle.words.specs.declared.Found.{Found}
 use Rattle.words.specs.declared.Found.the-variants.{At, Nothing}
@@ -43,9 +44,12 @@ scopedAt f command m i = inScope f command (rowAt m i)
 abbrev pub scan : Features → Command → List ℕ → ℕ → ℕ → Found
 scan f command m n i = lowest (scopedAt f command m) n i
 
--- the control word after a command is consumed
-abbrev pub afterCommand : Decoded → ℕ → ℕ
+-- the control word after a command is consumed, and the parts of it that this touches
+unfoldable pub afterCommand : Decoded → ℕ → ℕ
 afterCommand d w = control-stores.consumed w
+
+abbrev pub consumes : List Range
+consumes = control.rdBits ∷ []
 
 -- a legal command: the lowest row in scope goes; once there is none, the command is consumed
 abbrev pub byScan : Command → ℕ → Found → Due

@@ -2,16 +2,17 @@
 -- Assumes nothing.
 use mathlib.Core.Path.{_≡_, refl, sym, ap, ap₂, _∙_, subst}
 use mathlib.Core.Bool.{Bool, true, false, _&&_, _||_}
+use mathlib.Core.List.{List, [], _∷_, _++_, map}
 use Prim.Native.Nat.{ℕ, _+_, _-_, _*_, _/_, _%_, _^_, _≤_, _<_}
 use native.Mathlib.Nat.{mod-lt, mod-eq-of-lt, lt-of-lt-of-le}
 use native.Mathlib.Omega.{arith}
 use lib.Arith.{digits-lt}
-use lib.Dec.{T, ltb, leb}
+use lib.Dec.{T, ltb, leb, leb→le}
 use borrow.Author.Tests.{leb-true, ltb-true}
 use lib.Pow.{pow-pos, pow-mono, pow-add, shr-shr, shr-lt, high, low, field, mod-mod-pow}
 use Rattle.words.specs.Parts.{part, put}
-use Rattle.words.specs.Ranges.{Range, bits, get, set}
-use Rattle.words.proofs.Truth.{left, right, passed}
+use Rattle.words.specs.Ranges.{Range, bits, get, set, width, Field, puts}
+use Rattle.words.proofs.Truth.{left, right, passed, T-left, T-right}
 
 pub part-lt : (h l w : ℕ) → part h l w < 2 ^ (h + 1 - l)
 unfolding part
@@ -44,12 +45,12 @@ module _ (d l v w : ℕ) where
   fits k h = rw (pow-add 2 k (d + l)) (digits-lt (shr-lt k (d + l) h) inner-lt)
 
 module _ (h l : ℕ) (ordered : l ≤ h) (v w : ℕ) where
-  width : (h + 1 - l) + l ≡ h + 1
-  width = omega arith
+  top : (h + 1 - l) + l ≡ h + 1
+  top = omega arith
 
   is-whole : put h l v w ≡ whole (h + 1 - l) l v w
   unfolding put
-  is-whole = rw width
+  is-whole = rw top
 
   pub put-lt : w < 2 ^ 64 → h < 64 → put h l v w < 2 ^ 64
   put-lt fit small =
@@ -89,9 +90,13 @@ module _ (h l : ℕ) (ordered : l ≤ h) (v w : ℕ) where
       (cut (whole (h + 1 - l) l v w)
       ∙ ap (λ (x : ℕ). x % 2 ^ ((h′ + 1 - l′) + l′) / 2 ^ l′) (bottom (h + 1 - l) l v w) ∙ sym (cut w))
 
+-- a range has its high bit first
+abbrev pub ordered : Range → Bool
+ordered (bits h l) = leb l h
+
 -- a number that fits is read back
-pub reads-back : (h l v w : ℕ) → l ≤ h → v < 2 ^ (h + 1 - l) → part h l (put h l v w) ≡ v
-reads-back h l v w ordered fit = put-same h l ordered v w ∙ mod-eq-of-lt fit
+pub reads-back : (r : Range) (v w : ℕ) → T (ordered r) → v < 2 ^ width r → get r (set r v w) ≡ v
+reads-back (bits h l) v w t fit = put-same h l (leb→le l h t) v w ∙ mod-eq-of-lt fit
 
 -- two ranges, each with its high bit first, that share no bit
 abbrev pub apart : Range → Range → Bool
@@ -120,7 +125,45 @@ keeps (bits h l) v w (bits h′ l′) t = side (ltb h l′) refl
 whole-again : (d l v w : ℕ) → whole d l v (whole d l v w) ≡ whole d l v w
 whole-again d l v w = ap₂ (λ (x y : ℕ). x * 2 ^ (d + l) + (v % 2 ^ d * 2 ^ l + y)) (over d l v w) (bottom d l v w)
 
-pub put-again : (h l : ℕ) → l ≤ h → (v w : ℕ) → put h l v (put h l v w) ≡ put h l v w
-put-again h l ordered v w =
-    is-whole h l ordered v (put h l v w) ∙ ap (whole (h + 1 - l) l v) (is-whole h l ordered v w) ∙ whole-again (h + 1 - l) l v w
-    ∙ sym (is-whole h l ordered v w)
+pub put-again : (r : Range) (v w : ℕ) → T (ordered r) → set r v (set r v w) ≡ set r v w
+put-again (bits h l) v w t =
+    let o = leb→le l h t in
+    is-whole h l o v (put h l v w) ∙ ap (whole (h + 1 - l) l v) (is-whole h l o v w) ∙ whole-again (h + 1 - l) l v w ∙ sym (is-whole h l o v w)
+
+-- a range of a machine word, which a number put there leaves one
+abbrev pub inWord : Range → Bool
+inWord (bits h l) = leb l h && ltb h 64
+
+pub set-lt : (r : Range) (v w : ℕ) → T (inWord r) → w < 2 ^ 64 → set r v w < 2 ^ 64
+set-lt (bits h l) v w t fit =
+    put-lt h l (leb-true l h (left (leb l h) (ltb h 64) (passed t))) v w fit (ltb-true h 64 (right (leb l h) (ltb h 64) (passed t)))
+
+-- Several fields, one after the other.
+abbrev pub allApart : List Range → Range → Bool
+allApart [] r = true
+allApart (t ∷ ts) r = apart t r && allApart ts r
+
+abbrev pub places : List Field → List Range
+places fs = map (λ (f : Field). f .at) fs
+
+abbrev pub allIn : List Field → Bool
+allIn [] = true
+allIn (f ∷ fs) = inWord (f .at) && allIn fs
+
+-- they keep every range that is apart from all of theirs
+pub puts-keep : (fs : List Field) (w : ℕ) (r : Range) → T (allApart (places fs) r) → get r (puts fs w) ≡ get r w
+puts-keep [] w r t = refl
+puts-keep (f ∷ fs) w r t =
+    puts-keep fs (set (f .at) (f .value) w) r (T-right (apart (f .at) r) (allApart (places fs) r) t)
+    ∙ keeps (f .at) (f .value) w r (T-left (apart (f .at) r) (allApart (places fs) r) t)
+
+-- each that fits is read back, if those after it are apart from it
+pub puts-read : (before : List Field) (f : Field) (after : List Field) (w : ℕ) → T (ordered (f .at)) → T (allApart (places after) (f .at)) → f .value < 2 ^ width (f .at)
+    → get (f .at) (puts (before ++ f ∷ after) w) ≡ f .value
+puts-read [] f after w o t fit = puts-keep after (set (f .at) (f .value) w) (f .at) t ∙ reads-back (f .at) (f .value) w o fit
+puts-read (b ∷ before) f after w o t fit = puts-read before f after (set (b .at) (b .value) w) o t fit
+
+pub puts-lt : (fs : List Field) (w : ℕ) → T (allIn fs) → w < 2 ^ 64 → puts fs w < 2 ^ 64
+puts-lt [] w t fit = fit
+puts-lt (f ∷ fs) w t fit =
+    puts-lt fs (set (f .at) (f .value) w) (T-right (inWord (f .at)) (allIn fs) t) (set-lt (f .at) (f .value) w (T-left (inWord (f .at)) (allIn fs) t) fit)

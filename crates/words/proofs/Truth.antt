@@ -32,6 +32,14 @@ pub right : (a b : Bool) → (a && b) ≡ true → b ≡ true
 right true b e = e
 right false b e = clash e refl
 
+pub T-left : (a b : Bool) → T (a && b) → T a
+T-left true b t = tt
+T-left false b t = t
+
+pub T-right : (a b : Bool) → T (a && b) → T b
+T-right true b t = t
+T-right false b t = absurd t
+
 pub and-true : {a b : Bool} → a ≡ true → b ≡ true → (a && b) ≡ true
 and-true p q = simp (p, q)
 

@@ -1,6 +1,6 @@
 -- Ranges of bits, and words that use no others.
 -- Assumes nothing.
-use Prim.Native.Nat.{ℕ, zero, suc}
+use Prim.Native.Nat.{ℕ, zero, suc, _+_, _-_}
 use mathlib.Core.Bool.{Bool, true, false, not, _&&_, _||_}
 use mathlib.Core.List.{List, [], _∷_}
 use lib.Dec.{leb}
@@ -16,6 +16,19 @@ get (bits h l) w = part h l w
 
 abbrev pub set : Range → ℕ → ℕ → ℕ
 set (bits h l) v w = put h l v w
+
+-- how many bits it has
+abbrev pub width : Range → ℕ
+width (bits h l) = h + 1 - l
+
+-- a range and a number for it; and the word with several of them put, one after the other
+pub record Field : Type 0 where
+  pub at : Range
+  pub value : ℕ
+
+abbrev pub puts : List Field → ℕ → ℕ
+puts [] w = w
+puts (f ∷ fs) w = puts fs (set (f .at) (f .value) w)
 
 -- bit i lies in one of the ranges
 abbrev pub named : List Range → ℕ → Bool
