@@ -1,5 +1,7 @@
 """Prints the figures of a folder of bench/run as Markdown: figures.py FOLDER."""
 
+import os
+import platform
 import subprocess
 import sys
 
@@ -9,8 +11,10 @@ HEAD = ["per", "unit"] + [cell for model in MODELS.values() for cell in (model, 
 
 
 def machine():
+    # x86-64 names its processors, AArch64 gives each a line of features only
     with open("/proc/cpuinfo") as lines:
         names = [line.split(":", 1)[1].strip() for line in lines if line.startswith("model name")]
+    names = names or [platform.machine()] * os.cpu_count()
     rustc = subprocess.run(["rustc", "--version"], capture_output=True, text=True, check=True)
     version = " ".join(rustc.stdout.split()[:2])
     print(f"Measured on: {names[0]}, {len(names)} processors; {version}.\n")
