@@ -2,8 +2,11 @@
 
 DIR holds a folder for each crate and in it one for each edit, with the prover's words in .log. An edit that no longer
 parses, names what is not there, or leaves a proof file that does not fit the code would be refused too, and shows nothing.
+
+An edit may hold several, of functions that do not call one another, so that one check refuses them all. It then has a line
+for each, `refuses: module::function` or, where a law fails and not a function, `refuses: File.law`; each of these has to be
+refused for a failed fact of its own.
 """
-import itertools
 import os
 import re
 import sys
@@ -22,24 +25,76 @@ FOLLOWS = 'was not admitted'
 LEFT = 'it is not proved that'
 
 
+def messages(log):
+    """The prover's messages: each its first line, and the lines that it goes on in."""
+    found = []
+    for line in log.split('\n'):
+        if line.startswith('  ') and found:
+            found[-1].append(line.strip())
+        else:
+            found.append([line])
+    return found
+
+
+def another(message):
+    """Why a message is not about a fact, or None. What it says of a name or a type may begin a further line."""
+    for pattern, why in OTHER_REASONS:
+        if re.search(pattern, message[0]) or any(re.match(pattern, line) for line in message[1:]):
+            return '%s: %s' % (why, message[0][:300])
+    return None
+
+
+def errors(log):
+    """The messages that say an error, but for those that only follow from another's."""
+    return [message for message in messages(log) if 'error' in message[0] and FOLLOWS not in message[0]]
+
+
 def reason(log):
     """Why a log does not show a failed fact, or None where it does."""
-    lines = log.split('\n')
-    at = next((i for i, line in enumerate(lines) if 'error' in line and FOLLOWS not in line), None)
-    if at is None:
-        return None if any(LEFT in line for line in lines) else 'the log shows no fact that fails'
-    # a long message is wrapped, and what it says of a name or a type may begin a further line
-    further = itertools.takewhile(lambda line: line.startswith('  '), lines[at + 1:])
-    starts = [line.strip() for line in further]
-    for pattern, why in OTHER_REASONS:
-        if re.search(pattern, lines[at]) or any(re.match(pattern, start) for start in starts):
-            return '%s: %s' % (why, lines[at][:300])
-    return None
+    found = errors(log)
+    if found:
+        return another(found[0])
+    return None if LEFT in log else 'the log shows no fact that fails'
+
+
+def own_reason(log, crate, name):
+    """Why a log does not show a failed fact of one function, or of one law, of the crate; None where it does."""
+    if '::' in name or '.' not in name:
+        verdict = re.search(r'^fn %s::%s: (.*)$' % (re.escape(crate), re.escape(name)), log, re.M)
+        if not verdict:
+            return 'the log has no verdict on it'
+        if 'it calls' in verdict.group(1) or not re.match('not proved|no proof', verdict.group(1)):
+            return 'it is %s' % verdict.group(1)[:200]
+        own = [message for message in errors(log) if '/proofs/%s/Proof.antt:' % name.replace('::', '/') in message[0]]
+        if not own:
+            return None if re.search('does not close|' + LEFT, verdict.group(1)) else 'no fact of its own fails'
+    else:
+        file, law = name.split('.', 1)
+        own = [message for message in errors(log) if '/proofs/%s.antt:' % file in message[0] and 'error: `%s`' % law in message[0]]
+        if not own:
+            return 'no fact of its own fails'
+    return next((why for why in map(another, own) if why), None)
+
+
+def named(edit):
+    """The functions and laws that an edit says are refused."""
+    with open(edit, encoding='utf-8') as opened:
+        return re.findall(r'^refuses: (\S+)$', opened.read(), re.M)
+
+
+def judged(crate, edit, log):
+    """What is wrong with an edit's refusal, a line each."""
+    names = named(edit)
+    if not names:
+        why = reason(log)
+        return [why] if why else []
+    return ['%s: %s' % (name, why) for name in names for why in [own_reason(log, crate, name)] if why]
 
 
 def main(folder):
     wrong = 0
     count = 0
+    members = 0
     for crate in sorted(os.listdir(folder)):
         for label in sorted(os.listdir(os.path.join(folder, crate))):
             path = os.path.join(folder, crate, label, '.log')
@@ -47,14 +102,16 @@ def main(folder):
                 continue
             count += 1
             with open(path, encoding='utf-8', errors='replace') as opened:
-                why = reason(opened.read())
-            if why is not None:
+                log = opened.read()
+            edit = os.path.join('crates', crate, 'must-fail', label + '.edit')
+            members += max(1, len(named(edit)))
+            for why in judged(crate, edit, log):
                 print('%s/%s: %s' % (crate, label, why))
                 wrong += 1
     if count == 0:
         print('no must-fail edit was tried')
         return 1
-    print('refusals: %d edits, %d refused for another reason' % (count, wrong))
+    print('refusals: %d edits in %d checks, %d refused for another reason' % (members, count, wrong))
     return 1 if wrong else 0
 
 

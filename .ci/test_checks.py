@@ -62,6 +62,23 @@ def logs():
         expect('another reason: ' + log[:60], refusals.reason(log) is not None)
 
 
+def groups():
+    fact = 'c/proofs/%s/Proof.antt:1:2: error: `returns`: expected type `a ≡ b`, but this has type `a ≡ c`\n'
+    two = fact % 'm/f' + fact % 'g' + 'fn c::m::f: not proved\nfn c::g: not proved\nfn c::h: proved\n'
+    expect('two functions, each for its own fact', [refusals.own_reason(two, 'c', name) for name in ('m::f', 'g')] == [None, None])
+    one = fact % 'm/f' + 'fn c::m::f: not proved\nfn c::g: not proved; it calls `c::m::f`, which is not proved\nfn c::h: proved\n'
+    expect('the one that was edited', refusals.own_reason(one, 'c', 'm::f') is None)
+    for name, what in [('h', 'a member that was proved'), ('g', 'a member that only calls'), ('x', 'a member without a verdict')]:
+        expect(what, refusals.own_reason(one, 'c', name) is not None)
+    expect('a member with no fact of its own', refusals.own_reason(fact % 'm/f' + 'fn c::g: not proved\n', 'c', 'g') is not None)
+    shape = 'c/proofs/g/Proof.antt:1:2: error: `x` has no `Need-add-i` that can be named from here\nfn c::g: not proved\n'
+    expect('a member whose proof does not fit', refusals.own_reason(fact % 'm/f' + shape, 'c', 'g') is not None)
+    expect('a member that the search leaves', refusals.own_reason('fn c::g: no proof: `search` does not close `returns`\n', 'c', 'g') is None)
+    law = 'c/proofs/Laws.antt:1:2: error: `keeps`: expected type `a`, but this has type `b`\n'
+    expect('a law', refusals.own_reason(law, 'c', 'Laws.keeps') is None)
+    expect('another law', refusals.own_reason(law, 'c', 'Laws.keep') is not None)
+
+
 def stores():
     step = 'fn step(kept: &mut [u64], i: usize)\n    ensures { λ r. ⌜ now (kept .exit) ≡ set (now (kept .entry)) i 0 ⌝ }\n{\n    kept[4 * i + 1] = 0;\n}\n'
     expect('a step may store', writes.wrong('fills', step) == [])
@@ -140,6 +157,7 @@ def folders():
 
 citations()
 logs()
+groups()
 stores()
 evasions()
 allowed()
