@@ -6,6 +6,7 @@ and may name something in that file after a colon:
   words/src/lib.rt:word_at          a function, constant, struct or enum of a source file
   cases/stdout:length 5             a case, by its label
   words/must-fail/power_twice.edit  a file
+  words/must-fail/apart_1.edit:put_at_the_wrong_bit   one of the edits of a file that holds several
 """
 import os
 import re
@@ -19,6 +20,8 @@ def declares(path, name, text):
         pattern = r'^\s*((unfoldable|abbrev|pub) )*(%s( \{[^}]*\})? :|(record|data) %s( |$))' % (quoted, quoted)
     elif path.endswith('.rt'):
         pattern = r'^\s*(pub )?((extern "C" )?fn|const|struct|enum) %s\b' % quoted
+    elif path.endswith('.edit'):
+        pattern = r'^# %s$' % quoted
     else:
         pattern = r'^%s: ' % quoted
     return re.search(pattern, text, re.M) is not None
