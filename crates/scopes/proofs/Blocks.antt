@@ -1,11 +1,12 @@
 -- Blocks of streams: two meet exactly if some stream lies in both. Range 31 is every stream.
 -- Assumes nothing.
 use mathlib.Core.Path.{_≡_, refl, sym, ap, _∙_}
-use mathlib.Core.Bool.{true, false}
+use mathlib.Core.Bool.{Bool, true, false}
 use mathlib.Core.Logic.{_⊎_, ⊎-elim}
 use Prim.Native.Nat.{ℕ, _+_, _-_, _/_, _^_, _≤_, _<_, max}
 use native.Mathlib.Nat.{div-eq-of-lt, lt-of-lt-of-le}
 use native.Mathlib.Omega.{arith}
+use lib.Dec.{eqb}
 use lib.Pow.{pow-mono, shr-shr}
 use borrow.Author.Tests.{eqb-true, eq-eqb}
 use Rattle.words.specs.Parts.{part}
@@ -15,19 +16,20 @@ use Rattle.rows.specs.declared.Row.{Row}
 use Rattle.rows.specs.Rows as rows
 use Rattle.commands.specs.declared.Features.{Features}
 use Rattle.commands.specs.declared.Command.the-variants.{CfgiSteRange}
-use Rattle.scopes.specs.Scopes.{meets, steBlock, steOf, cdOf, removes, idle, inScope}
+use Rattle.scopes.specs.declared.Block.{Block}
+use Rattle.scopes.specs.Scopes.{meets, one, steBlock, ranged, steOf, cdOf, removes, tooWide, inScope}
 use Rattle.scopes.proofs.Laws.{is-scoped}
 
--- a stream lies in the block of 2 ^ n streams that a lies in
-abbrev pub LiesIn : ℕ → ℕ → ℕ → Type 0
-LiesIn stream n a = stream / 2 ^ n ≡ a / 2 ^ n
+-- a stream lies in a block
+abbrev pub LiesIn : ℕ → Block → Type 0
+LiesIn stream b = stream / 2 ^ (b .span) ≡ b .stream / 2 ^ (b .span)
 
 -- a stream of 32 bits that lies in both of two blocks
-pub record Shared (n a m b : ℕ) : Type 0 where
+pub record Shared (a b : Block) : Type 0 where
   pub stream : ℕ
   pub fits : stream < 2 ^ 32
-  pub first : LiesIn stream n a
-  pub second : LiesIn stream m b
+  pub first : LiesIn stream a
+  pub second : LiesIn stream b
 
 -- what is equal above n bits is equal above more
 above : (x y n k : ℕ) → n ≤ k → x / 2 ^ n ≡ y / 2 ^ n → x / 2 ^ k ≡ y / 2 ^ k
@@ -35,41 +37,54 @@ above x y n k h e =
     let sum : n + (k - n) ≡ k = omega arith in
     rw sum at (sym (shr-shr x n (k - n)) ∙ ap (λ (z : ℕ). z / 2 ^ (k - n)) e ∙ shr-shr y n (k - n))
 
-module _ (n a m b : ℕ) where
-  pub meet-share : a < 2 ^ 32 → b < 2 ^ 32 → meets n a m b ≡ true → Shared n a m b
-  meet-share fit-a fit-b e =
-      let same = eqb-true (a / 2 ^ max n m) (b / 2 ^ max n m) e in
-      ⊎-elim
-      (λ l. let k : max n m ≡ m = omega arith in record { stream = a; fits = fit-a; first = refl; second = rw k at same })
-      (λ g. let k : max n m ≡ n = omega arith in record { stream = b; fits = fit-b; first = rw k at (sym same); second = refl })
-      (less-or-not n m)
+module _ (a b : Block) where
+  abbrev wider : ℕ
+  wider = max (a .span) (b .span)
 
-  pub share-meet : (stream : ℕ) → LiesIn stream n a → LiesIn stream m b → meets n a m b ≡ true
+  -- the larger block counts
+  pub second-larger : (x : Bool) → a .span < b .span → x ≡ eqb (a .stream / 2 ^ (b .span)) (b .stream / 2 ^ (b .span)) → x ≡ meets a b
+  second-larger x l e = let k : wider ≡ b .span = omega arith in rw k e
+
+  pub first-larger : (x : Bool) → b .span ≤ a .span → x ≡ eqb (a .stream / 2 ^ (a .span)) (b .stream / 2 ^ (a .span)) → x ≡ meets a b
+  first-larger x g e = let k : wider ≡ a .span = omega arith in rw k e
+
+  pub meet-share : a .stream < 2 ^ 32 → b .stream < 2 ^ 32 → meets a b ≡ true → Shared a b
+  meet-share fit-a fit-b e =
+      let same = eqb-true (a .stream / 2 ^ wider) (b .stream / 2 ^ wider) e in
+      ⊎-elim
+      (λ l. let k : wider ≡ b .span = omega arith in record { stream = a .stream; fits = fit-a; first = refl; second = rw k at same })
+      (λ g. let k : wider ≡ a .span = omega arith in record { stream = b .stream; fits = fit-b; first = rw k at (sym same); second = refl })
+      (less-or-not (a .span) (b .span))
+
+  pub share-meet : (stream : ℕ) → LiesIn stream a → LiesIn stream b → meets a b ≡ true
   share-meet stream p q =
-      eq-eqb (a / 2 ^ max n m) (b / 2 ^ max n m)
-      (sym (above stream a n (max n m) (omega arith) p) ∙ above stream b m (max n m) (omega arith) q)
+      eq-eqb (a .stream / 2 ^ wider) (b .stream / 2 ^ wider)
+      (sym (above stream (a .stream) (a .span) wider (omega arith) p) ∙ above stream (b .stream) (b .span) wider (omega arith) q)
 
 -- every two streams are equal above 32 bits
 none-above : (x k : ℕ) → x < 2 ^ 32 → 32 ≤ k → x / 2 ^ k ≡ 0
 none-above x k h l = div-eq-of-lt (lt-of-lt-of-le h (pow-mono l))
 
-pub all-meet : (n a b : ℕ) → a < 2 ^ 32 → b < 2 ^ 32 → meets n a 32 b ≡ true
-all-meet n a b h k =
-    eq-eqb (a / 2 ^ max n 32) (b / 2 ^ max n 32) (none-above a (max n 32) h (omega arith) ∙ sym (none-above b (max n 32) k (omega arith)))
+pub all-meet : (a b : Block) → a .stream < 2 ^ 32 → b .stream < 2 ^ 32 → b .span ≡ 32 → meets a b ≡ true
+all-meet a b fit-a fit-b e =
+    let k = max (a .span) (b .span) in
+    eq-eqb (a .stream / 2 ^ k) (b .stream / 2 ^ k)
+    (none-above (a .stream) k fit-a (omega arith) ∙ sym (none-above (b .stream) k fit-b (omega arith)))
 
 -- 04 with Range 31 removes every STE and CD row that is used, whatever its StreamID and the row's
 pub range-31 : (f : Features) (s : ℕ) (row : Row) → s < 2 ^ 32 → rows.isEmpty row ≡ false
     → (rows.kind row ≡ rows.ste) ⊎ (rows.kind row ≡ rows.cd) → inScope f (CfgiSteRange s 31) row ≡ true
-unfolding idle removes steOf cdOf part
+unfolding tooWide removes steOf cdOf part
 range-31 f s row fit used kind =
+    let every = ranged s 31 in
     is-scoped f (CfgiSteRange s 31) row
     (record {
       used = used;
-      busy = refl;
+      fits = refl;
       removed = ⊎-elim
-          (λ ste. or-left (steOf row 32 s) (cdOf row 32 s)
-          (and-true (eq-eqb (rows.kind row) rows.ste ste) (all-meet (steBlock row) (rows.stream row) s (part-lt 31 0 (row .w1)) fit)))
-          (λ cd. or-right (steOf row 32 s) (cdOf row 32 s)
-          (and-true (eq-eqb (rows.kind row) rows.cd cd) (all-meet 0 (rows.stream row) s (part-lt 31 0 (row .w1)) fit)))
+          (λ ste. or-left (steOf row every) (cdOf row every)
+          (and-true (eq-eqb (rows.kind row) rows.ste ste) (all-meet (steBlock row) every (part-lt 31 0 (row .w1)) fit refl)))
+          (λ cd. or-right (steOf row every) (cdOf row every)
+          (and-true (eq-eqb (rows.kind row) rows.cd cd) (all-meet (one (rows.stream row)) every (part-lt 31 0 (row .w1)) fit refl)))
           kind;
     })

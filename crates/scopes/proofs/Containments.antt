@@ -2,12 +2,10 @@
 -- Assumes nothing.
 use mathlib.Core.Path.{_≡_, refl, ap}
 use mathlib.Core.Bool.{Bool, true, false, not, _&&_, _||_}
-use mathlib.Core.Logic.{_⊎_, ⊎-elim}
+use mathlib.Core.Logic.{_⊎_, inl, inr, ⊎-elim}
 use Prim.Native.Nat.{ℕ, _^_, _<_}
 use lib.Dec.{eqb}
-use borrow.Author.Tests.{not-false}
-use Rattle.words.specs.Parts.{part}
-use Rattle.words.proofs.Parts.{part-lt}
+use borrow.Author.Tests.{eqb-true, not-false}
 use Rattle.words.proofs.Truth.{left, right, and-true, either, or-left, or-right}
 use Rattle.rows.specs.declared.Row.{Row}
 use Rattle.rows.specs.Rows as rows
@@ -15,19 +13,19 @@ use Rattle.commands.specs.declared.Features.{Features}
 use Rattle.commands.specs.declared.Target.{Target}
 use Rattle.commands.specs.declared.Command.{Command}
 use Rattle.commands.specs.declared.Command.the-variants.{CfgiSte, CfgiSteRange, TlbiNhAll, TlbiNhAsid, TlbiNhVa, TlbiNhVaa, TlbiS12Vmall, TlbiS2Ipa, TlbiNsnhAll}
-use Rattle.scopes.specs.Scopes.{notSpared, meets, steBlock, steOf, cdOf, stageOf, stageAt, hasAsid, addressOf, narrow, removes, idle, inScope}
+use Rattle.scopes.specs.Scopes.{spared, meets, one, steBlock, steOf, cdOf, stageOf, stageAt, hasAsid, addressOf, narrow, removes, tooWide, inScope}
 use Rattle.scopes.proofs.Laws.{scoped, is-scoped}
-use Rattle.scopes.proofs.Blocks.{all-meet}
+use Rattle.scopes.proofs.Blocks.{range-31}
 
 -- b removes whatever a removes
 abbrev pub Within : Features → Command → Command → Type 0
 Within f a b = (row : Row) → inScope f a row ≡ true → inScope f b row ≡ true
 
--- it does if it is busy where a is, and its row of the table says so
-within : (f : Features) (a b : Command) → (idle f a ≡ false → idle f b ≡ false) → ((row : Row) → removes a row ≡ true → removes b row ≡ true) → Within f a b
-within f a b busy more row e =
+-- it does if it is not too wide where a is not, and its row of the table says so
+within : (f : Features) (a b : Command) → (tooWide f a ≡ false → tooWide f b ≡ false) → ((row : Row) → removes a row ≡ true → removes b row ≡ true) → Within f a b
+within f a b fits more row e =
     let s = scoped f a row e in
-    is-scoped f b row (record { used = s .used; busy = busy (s .busy); removed = more row (s .removed) })
+    is-scoped f b row (record { used = s .used; fits = fits (s .fits); removed = more row (s .removed) })
 
 -- a conjunct of what is narrow is narrow
 one-narrow : (a b : Bool) → not (a && b) ≡ false → not a ≡ false
@@ -43,7 +41,7 @@ of-kind row k v e = left (eqb (rows.kind row) k) (eqb (rows.vmid row) v) e
 
 -- 30 contains 28
 pub all-contains-vmall : (f : Features) (v : ℕ) → Within f (TlbiS12Vmall v) TlbiNsnhAll
-unfolding idle removes
+unfolding tooWide removes
 all-contains-vmall f v =
     within f (TlbiS12Vmall v) TlbiNsnhAll (λ b. refl)
     (λ row e. ⊎-elim
@@ -53,33 +51,32 @@ all-contains-vmall f v =
 
 -- 28 contains 10
 pub vmall-contains-nh-all : (f : Features) (v : ℕ) → Within f (TlbiNhAll v) (TlbiS12Vmall v)
-unfolding idle removes
+unfolding tooWide removes
 vmall-contains-nh-all f v = within f (TlbiNhAll v) (TlbiS12Vmall v) (λ b. b) (λ row e. or-left (stageOf row 2 v) (stageOf row 3 v) e)
 
 -- 28 contains 2A
 pub vmall-contains-ipa : (f : Features) (v : ℕ) (t : Target) → Within f (TlbiS2Ipa v t) (TlbiS12Vmall v)
-unfolding idle removes
+unfolding tooWide removes
 vmall-contains-ipa f v t =
     within f (TlbiS2Ipa v t) (TlbiS12Vmall v) (λ b. b)
-    (λ row e. or-right (stageOf row 2 v) (stageOf row 3 v) (at-of row 3 v t (left (stageAt row 3 v t) (notSpared row (t .leaf)) e)))
+    (λ row e. or-right (stageOf row 2 v) (stageOf row 3 v) (at-of row 3 v t (left (stageAt row 3 v t) (not (spared row (t .leaf))) e)))
 
 -- 10 contains 11
 pub nh-all-contains-asid : (f : Features) (v a : ℕ) → Within f (TlbiNhAsid v a) (TlbiNhAll v)
-unfolding idle removes
+unfolding tooWide removes
 nh-all-contains-asid f v a =
     within f (TlbiNhAsid v a) (TlbiNhAll v) (one-narrow (narrow (f .vmid16) v) (narrow (f .asid16) a))
     (λ row e. left (stageOf row 2 v) (hasAsid row a) (left (stageOf row 2 v && hasAsid row a) (not (rows.isGlobal row)) e))
 
 -- 10 contains 13
 pub nh-all-contains-vaa : (f : Features) (v : ℕ) (t : Target) → Within f (TlbiNhVaa v t) (TlbiNhAll v)
-unfolding idle removes
+unfolding tooWide removes
 nh-all-contains-vaa f v t =
-    within f (TlbiNhVaa v t) (TlbiNhAll v) (λ b. b) (λ row e. at-of row 2 v t (left (stageAt row 2 v t) (notSpared row (t .leaf)) e))
+    within f (TlbiNhVaa v t) (TlbiNhAll v) (λ b. b) (λ row e. at-of row 2 v t (left (stageAt row 2 v t) (not (spared row (t .leaf))) e))
 
 -- 13 contains 12, where its Leaf is 0 or the same
-spared-less : (row : Row) (leaf leaf′ : Bool) → (leaf′ ≡ false) ⊎ (leaf′ ≡ leaf) → notSpared row leaf ≡ true → notSpared row leaf′ ≡ true
-spared-less row leaf leaf′ h e =
-    ⊎-elim (λ z. rw z (or-right (rows.isLast row) true refl)) (λ s. rw s e) h
+spared-less : (row : Row) (leaf leaf′ : Bool) → (leaf′ ≡ false) ⊎ (leaf′ ≡ leaf) → not (spared row leaf) ≡ true → not (spared row leaf′) ≡ true
+spared-less row leaf leaf′ h e = ⊎-elim (λ z. rw z) (λ s. rw s e) h
 
 same-place : (row : Row) (k v : ℕ) (t t′ : Target) → t′ .page ≡ t .page → stageAt row k v t ≡ true → stageAt row k v t′ ≡ true
 unfolding stageAt
@@ -87,23 +84,21 @@ same-place row k v t t′ p e = rw p e
 
 pub vaa-contains-va : (f : Features) (v a : ℕ) (t t′ : Target) → t′ .page ≡ t .page → (t′ .leaf ≡ false) ⊎ (t′ .leaf ≡ t .leaf)
     → Within f (TlbiNhVa v a t) (TlbiNhVaa v t′)
-unfolding idle removes
+unfolding tooWide removes
 vaa-contains-va f v a t t′ p h =
     within f (TlbiNhVa v a t) (TlbiNhVaa v t′) (one-narrow (narrow (f .vmid16) v) (narrow (f .asid16) a))
     (λ row e. let any = hasAsid row a || rows.isGlobal row in
-    let first = left (stageAt row 2 v t && any) (notSpared row (t .leaf)) e in
+    let first = left (stageAt row 2 v t && any) (not (spared row (t .leaf))) e in
     and-true (same-place row 2 v t t′ p (left (stageAt row 2 v t) any first))
-    (spared-less row (t .leaf) (t′ .leaf) h (right (stageAt row 2 v t && any) (notSpared row (t .leaf)) e)))
+    (spared-less row (t .leaf) (t′ .leaf) h (right (stageAt row 2 v t && any) (not (spared row (t .leaf))) e)))
 
 -- 04 with Range 31 contains every 03
 pub range-contains-ste : (f : Features) (s t : ℕ) (leaf : Bool) → t < 2 ^ 32 → Within f (CfgiSte s leaf) (CfgiSteRange t 31)
-unfolding idle removes steOf cdOf part
-range-contains-ste f s t leaf h =
-    within f (CfgiSte s leaf) (CfgiSteRange t 31) (λ b. refl)
-    (λ row e. ⊎-elim
-    (λ p. or-left (steOf row 32 t) (cdOf row 32 t)
-    (and-true (left (eqb (rows.kind row) 0) (meets (steBlock row) (rows.stream row) 0 s) (left (steOf row 0 s) (notSpared row leaf) p))
-    (all-meet (steBlock row) (rows.stream row) t (part-lt 31 0 (row .w1)) h)))
-    (λ q. or-right (steOf row 32 t) (cdOf row 32 t)
-    (and-true (left (eqb (rows.kind row) 1) (meets 0 (rows.stream row) 0 s) q) (all-meet 0 (rows.stream row) t (part-lt 31 0 (row .w1)) h)))
-    (either (steOf row 0 s && notSpared row leaf) (cdOf row 0 s) e))
+unfolding removes steOf cdOf
+range-contains-ste f s t leaf h row e =
+    let o = scoped f (CfgiSte s leaf) row e in
+    range-31 f t row h (o .used)
+    (⊎-elim
+    (λ p. inl (eqb-true (rows.kind row) rows.ste (left (eqb (rows.kind row) rows.ste) (meets (steBlock row) (one s)) (left (steOf row (one s)) (not (spared row leaf)) p))))
+    (λ q. inr (eqb-true (rows.kind row) rows.cd (left (eqb (rows.kind row) rows.cd) (meets (one (rows.stream row)) (one s)) q)))
+    (either (steOf row (one s) && not (spared row leaf)) (cdOf row (one s)) (o .removed)))

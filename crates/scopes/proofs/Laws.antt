@@ -1,46 +1,65 @@
 -- What the layers above use of a scope, in place of its text. That it reads the row's four words alone is its type.
 -- Assumes nothing.
-use mathlib.Core.Path.{_≡_, refl, ap}
-use mathlib.Core.Bool.{Bool, true, false, not, _&&_}
-use lib.Dec.{eqb}
+use mathlib.Core.Path.{_≡_, refl, sym, ap, _∙_}
+use mathlib.Core.Bool.{true, false, not, _&&_}
+use mathlib.Core.Logic.{⊎-elim}
 use borrow.Author.Tests.{not-true}
-use Rattle.words.proofs.Truth.{left, right, and-true}
+use Rattle.words.proofs.Truth.{left, right, and-true, decided}
 use Rattle.rows.specs.declared.Row.{Row}
 use Rattle.rows.specs.Rows as rows
 use Rattle.commands.specs.declared.Features.{Features}
 use Rattle.commands.specs.declared.Command.{Command}
-use Rattle.scopes.specs.Scopes.{removes, idle, inScope}
+use Rattle.commands.specs.declared.Command.the-variants.{PrefetchConfig, PrefetchAddr, CfgiSte, CfgiSteRange, CfgiCd, CfgiCdAll, TlbiNhAll, TlbiNhAsid, TlbiNhVa, TlbiNhVaa, TlbiS12Vmall, TlbiS2Ipa, TlbiNsnhAll, Sync}
+use Rattle.scopes.specs.Scopes.{removes, tooWide, inScope, idle}
 
 pub record Scoped (f : Features) (c : Command) (row : Row) : Type 0 where
   pub used : rows.isEmpty row ≡ false
-  pub busy : idle f c ≡ false
+  pub fits : tooWide f c ≡ false
   pub removed : removes c row ≡ true
+
+-- 01, 02 and 46 remove nothing anyway, so that asking whether a command is idle asks whether it is too wide
+pub idle-or-wide : (f : Features) (c : Command) (row : Row) → (not (idle f c) && removes c row) ≡ (not (tooWide f c) && removes c row)
+unfolding idle removes tooWide
+idle-or-wide f PrefetchConfig row = refl
+idle-or-wide f PrefetchAddr row = refl
+idle-or-wide f (CfgiSte stream leaf) row = refl
+idle-or-wide f (CfgiSteRange stream range) row = refl
+idle-or-wide f (CfgiCd substream stream leaf) row = refl
+idle-or-wide f (CfgiCdAll stream) row = refl
+idle-or-wide f (TlbiNhAll vmid) row = refl
+idle-or-wide f (TlbiNhAsid vmid asid) row = refl
+idle-or-wide f (TlbiNhVa vmid asid target) row = refl
+idle-or-wide f (TlbiNhVaa vmid target) row = refl
+idle-or-wide f (TlbiS12Vmall vmid) row = refl
+idle-or-wide f (TlbiS2Ipa vmid target) row = refl
+idle-or-wide f TlbiNsnhAll row = refl
+idle-or-wide f (Sync cs) row = refl
 
 module _ (f : Features) (c : Command) (row : Row) where
   pub empty-spared : rows.isEmpty row ≡ true → inScope f c row ≡ false
   unfolding inScope
   empty-spared e = rw e
 
-  pub idle-spares : idle f c ≡ true → inScope f c row ≡ false
+  -- the code's test of a row that is not empty
+  pub in-scope-if : rows.isEmpty row ≡ false → (not (idle f c) && removes c row) ≡ inScope f c row
   unfolding inScope
-  idle-spares e = cases (rows.isEmpty row) (removes c row)
-    where
-      cases : (b d : Bool) → (not b && not (idle f c) && d) ≡ false
-      cases true d = refl
-      cases false d = rw e
+  in-scope-if e = rw e (idle-or-wide f c row)
+
+  pub idle-spares : idle f c ≡ true → inScope f c row ≡ false
+  idle-spares e = ⊎-elim empty-spared (λ used. sym (in-scope-if used) ∙ rw e) (decided (rows.isEmpty row))
 
   pub scoped : inScope f c row ≡ true → Scoped f c row
   unfolding inScope
   scoped e =
       let a = not (rows.isEmpty row) in
-      let b = not (idle f c) in
+      let b = not (tooWide f c) in
       let ab = left (a && b) (removes c row) e in
       record {
         used = not-true (rows.isEmpty row) (left a b ab);
-        busy = not-true (idle f c) (right a b ab);
+        fits = not-true (tooWide f c) (right a b ab);
         removed = right (a && b) (removes c row) e;
       }
 
   pub is-scoped : Scoped f c row → inScope f c row ≡ true
   unfolding inScope
-  is-scoped s = and-true (and-true (ap not (s .used)) (ap not (s .busy))) (s .removed)
+  is-scoped s = and-true (and-true (ap not (s .used)) (ap not (s .fits))) (s .removed)

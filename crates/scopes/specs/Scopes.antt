@@ -11,30 +11,39 @@ use Rattle.commands.specs.declared.Features.{Features}
 use Rattle.commands.specs.declared.Target.{Target}
 use Rattle.commands.specs.declared.Command.{Command}
 use Rattle.commands.specs.declared.Command.the-variants.{PrefetchConfig, PrefetchAddr, CfgiSte, CfgiSteRange, CfgiCd, CfgiCdAll, TlbiNhAll, TlbiNhAsid, TlbiNhVa, TlbiNhVaa, TlbiS12Vmall, TlbiS2Ipa, TlbiNsnhAll, Sync}
+use Rattle.scopes.specs.declared.Block.{Block}
 
 -- Leaf 1 spares rows that are not last-level
-abbrev pub notSpared : Row → Bool → Bool
-notSpared row leaf = rows.isLast row || not leaf
+abbrev pub spared : Row → Bool → Bool
+spared row leaf = leaf && not (rows.isLast row)
 
--- Streams go by blocks: two blocks of 2 ^ n and 2 ^ m streams meet if their streams are equal above the larger's bits.
-abbrev pub meets : ℕ → ℕ → ℕ → ℕ → Bool
-meets n a m b = eqb (a / 2 ^ max n m) (b / 2 ^ max n m)
+-- Streams go by blocks of 2 ^ span, those that are equal above that many bits. Two blocks meet if they are equal above the larger's.
+abbrev pub meets : Block → Block → Bool
+meets a b =
+    eqb (a .stream / 2 ^ max (a .span) (b .span)) (b .stream / 2 ^ max (a .span) (b .span))
+
+-- one stream
+abbrev pub one : ℕ → Block
+one stream = record { stream = stream; span = 0 }
 
 -- a last-level STE row is of one stream, another of its whole block
-abbrev pub steBlock : Row → ℕ
-steBlock row = pick (rows.isLast row) 0 (rows.span row)
+abbrev pub steBlock : Row → Block
+steBlock row = record { stream = rows.stream row; span = pick (rows.isLast row) 0 (rows.span row) }
 
--- the block of a Range of five bits
-abbrev pub blockOf : ℕ → ℕ
-blockOf range = part 4 0 range + 1
+-- how many bits a Range of five bits leaves open, and the block of 04
+abbrev pub openBits : ℕ → ℕ
+openBits range = part 4 0 range + 1
 
--- STE rows of a block of 2 ^ n streams
-unfoldable pub steOf : Row → ℕ → ℕ → Bool
-steOf row n stream = eqb (rows.kind row) rows.ste && meets (steBlock row) (rows.stream row) n stream
+abbrev pub ranged : ℕ → ℕ → Block
+ranged stream range = record { stream = stream; span = openBits range }
 
--- CD rows of a block of 2 ^ n streams
-unfoldable pub cdOf : Row → ℕ → ℕ → Bool
-cdOf row n stream = eqb (rows.kind row) rows.cd && meets 0 (rows.stream row) n stream
+-- STE rows of a block of streams
+unfoldable pub steOf : Row → Block → Bool
+steOf row block = eqb (rows.kind row) rows.ste && meets (steBlock row) block
+
+-- CD rows of a block of streams
+unfoldable pub cdOf : Row → Block → Bool
+cdOf row block = eqb (rows.kind row) rows.cd && meets (one (rows.stream row)) block
 
 -- CD rows of a stream and substream, one that is not last-level on its stream alone
 unfoldable pub cdAt : Row → ℕ → ℕ → Bool
@@ -66,16 +75,17 @@ isStage row = eqb (rows.kind row) rows.stage1 || eqb (rows.kind row) rows.stage2
 unfoldable pub removes : Command → Row → Bool
 removes PrefetchConfig row = false
 removes PrefetchAddr row = false
-removes (CfgiSte stream leaf) row = (steOf row 0 stream && notSpared row leaf) || cdOf row 0 stream
-removes (CfgiSteRange stream range) row = steOf row (blockOf range) stream || cdOf row (blockOf range) stream
-removes (CfgiCd substream stream leaf) row = cdAt row stream substream && notSpared row leaf
-removes (CfgiCdAll stream) row = cdOf row 0 stream
+removes (CfgiSte stream leaf) row = (steOf row (one stream) && not (spared row leaf)) || cdOf row (one stream)
+removes (CfgiSteRange stream range) row = steOf row (ranged stream range) || cdOf row (ranged stream range)
+removes (CfgiCd substream stream leaf) row = cdAt row stream substream && not (spared row leaf)
+removes (CfgiCdAll stream) row = cdOf row (one stream)
 removes (TlbiNhAll vmid) row = stageOf row rows.stage1 vmid
 removes (TlbiNhAsid vmid asid) row = stageOf row rows.stage1 vmid && hasAsid row asid && not (rows.isGlobal row)
-removes (TlbiNhVa vmid asid target) row = stageAt row rows.stage1 vmid target && (hasAsid row asid || rows.isGlobal row) && notSpared row (target .leaf)
-removes (TlbiNhVaa vmid target) row = stageAt row rows.stage1 vmid target && notSpared row (target .leaf)
+removes (TlbiNhVa vmid asid target) row =
+    stageAt row rows.stage1 vmid target && (hasAsid row asid || rows.isGlobal row) && not (spared row (target .leaf))
+removes (TlbiNhVaa vmid target) row = stageAt row rows.stage1 vmid target && not (spared row (target .leaf))
 removes (TlbiS12Vmall vmid) row = stageOf row rows.stage1 vmid || stageOf row rows.stage2 vmid
-removes (TlbiS2Ipa vmid target) row = stageAt row rows.stage2 vmid target && notSpared row (target .leaf)
+removes (TlbiS2Ipa vmid target) row = stageAt row rows.stage2 vmid target && not (spared row (target .leaf))
 removes TlbiNsnhAll row = isStage row
 removes (Sync cs) row = false
 
@@ -83,23 +93,44 @@ removes (Sync cs) row = false
 abbrev pub narrow : Bool → ℕ → Bool
 narrow wide id = wide || eqb (part 15 8 id) 0
 
--- commands that remove nothing whatever the rows are: by their code, or since an identifier is too wide
-unfoldable pub idle : Features → Command → Bool
-idle f PrefetchConfig = true
-idle f PrefetchAddr = true
-idle f (CfgiSte stream leaf) = false
-idle f (CfgiSteRange stream range) = false
-idle f (CfgiCd substream stream leaf) = false
-idle f (CfgiCdAll stream) = false
-idle f (TlbiNhAll vmid) = not (narrow (f .vmid16) vmid)
-idle f (TlbiNhAsid vmid asid) = not (narrow (f .vmid16) vmid && narrow (f .asid16) asid)
-idle f (TlbiNhVa vmid asid target) = not (narrow (f .vmid16) vmid && narrow (f .asid16) asid)
-idle f (TlbiNhVaa vmid target) = not (narrow (f .vmid16) vmid)
-idle f (TlbiS12Vmall vmid) = not (narrow (f .vmid16) vmid)
-idle f (TlbiS2Ipa vmid target) = not (narrow (f .vmid16) vmid)
-idle f TlbiNsnhAll = false
-idle f (Sync cs) = true
+-- without ASID16 (VMID16), the ASID (VMID) has an upper bit set: such a command removes nothing
+unfoldable pub tooWide : Features → Command → Bool
+tooWide f PrefetchConfig = false
+tooWide f PrefetchAddr = false
+tooWide f (CfgiSte stream leaf) = false
+tooWide f (CfgiSteRange stream range) = false
+tooWide f (CfgiCd substream stream leaf) = false
+tooWide f (CfgiCdAll stream) = false
+tooWide f (TlbiNhAll vmid) = not (narrow (f .vmid16) vmid)
+tooWide f (TlbiNhAsid vmid asid) = not (narrow (f .vmid16) vmid && narrow (f .asid16) asid)
+tooWide f (TlbiNhVa vmid asid target) = not (narrow (f .vmid16) vmid && narrow (f .asid16) asid)
+tooWide f (TlbiNhVaa vmid target) = not (narrow (f .vmid16) vmid)
+tooWide f (TlbiS12Vmall vmid) = not (narrow (f .vmid16) vmid)
+tooWide f (TlbiS2Ipa vmid target) = not (narrow (f .vmid16) vmid)
+tooWide f TlbiNsnhAll = false
+tooWide f (Sync cs) = false
 
 -- a row is in a command's scope: it is not empty, and the command removes it
 unfoldable pub inScope : Features → Command → Row → Bool
-inScope f command row = not (rows.isEmpty row) && not (idle f command) && removes command row
+inScope f command row = not (rows.isEmpty row) && not (tooWide f command) && removes command row
+
+-- all but 01, 02 and 46 are invalidations
+abbrev pub invalidates : Command → Bool
+invalidates PrefetchConfig = false
+invalidates PrefetchAddr = false
+invalidates (CfgiSte stream leaf) = true
+invalidates (CfgiSteRange stream range) = true
+invalidates (CfgiCd substream stream leaf) = true
+invalidates (CfgiCdAll stream) = true
+invalidates (TlbiNhAll vmid) = true
+invalidates (TlbiNhAsid vmid asid) = true
+invalidates (TlbiNhVa vmid asid target) = true
+invalidates (TlbiNhVaa vmid target) = true
+invalidates (TlbiS12Vmall vmid) = true
+invalidates (TlbiS2Ipa vmid target) = true
+invalidates TlbiNsnhAll = true
+invalidates (Sync cs) = false
+
+-- no row need be looked at: it is no invalidation, or it is too wide
+unfoldable pub idle : Features → Command → Bool
+idle f command = not (invalidates command) || tooWide f command

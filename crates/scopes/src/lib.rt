@@ -7,12 +7,18 @@ ghost use mathlib.Core.Path.{_≡_};
 ghost use Prim.Native.Nat.{_/_, _^_, _<_};
 ghost use lib.Dec.{eqb};
 ghost use Rattle.rows.specs.Rows.{isGlobal};
-ghost use Rattle.scopes.specs.Scopes.{notSpared, meets, blockOf, steOf, cdOf, cdAt, stageOf, addressOf, stageAt, hasAsid, isStage, narrow, removes, idle, inScope};
+ghost use Rattle.scopes.specs.Scopes.{spared, meets, steBlock, openBits, steOf, cdOf, cdAt, stageOf, addressOf, stageAt, hasAsid, isStage, narrow, removes, idle, inScope};
 
-fn not_spared(row: Row, leaf: bool) -> bool
-    ensures { λ r. ⌜ r ≡ notSpared row leaf ⌝ }
+// The 2^span streams that are equal to one of them above their lowest span bits.
+pub struct Block {
+    pub stream: u64,
+    pub span: u64,
+}
+
+fn spared(row: Row, leaf: bool) -> bool
+    ensures { λ r. ⌜ r ≡ spared row leaf ⌝ }
 {
-    rows::parts_of(row).last | !leaf
+    leaf & !rows::parts_of(row).last
 }
 
 fn same_above(k: u64, a: u64, b: u64) -> bool
@@ -22,33 +28,49 @@ fn same_above(k: u64, a: u64, b: u64) -> bool
     a / words::power(k) == b / words::power(k)
 }
 
-fn meets(n: u64, a: u64, m: u64, b: u64) -> bool
-    requires { ⌜ (n < 64) × (m < 64) ⌝ }
-    ensures { λ r. ⌜ r ≡ meets n a m b ⌝ }
+fn meets(a: Block, b: Block) -> bool
+    requires { ⌜ (a .span < 64) × (b .span < 64) ⌝ }
+    ensures { λ r. ⌜ r ≡ meets a b ⌝ }
 {
-    if n < m {
-        return same_above(m, a, b);
+    if a.span < b.span {
+        return same_above(b.span, a.stream, b.stream);
     }
-    same_above(n, a, b)
+    same_above(a.span, a.stream, b.stream)
 }
 
-fn ste_of(row: Row, n: u64, stream: u64) -> bool
-    requires { ⌜ n < 64 ⌝ }
-    ensures { λ r. ⌜ r ≡ steOf row n stream ⌝ }
+fn ste_block(row: Row) -> Block
+    ensures { λ r. ⌜ (r ≡ steBlock row) × (r .span < 64) ⌝ }
 {
     let p = rows::parts_of(row);
     if p.last {
-        return (p.kind == 0) & meets(0, p.stream, n, stream);
+        return Block {
+            stream: p.stream,
+            span: 0,
+        };
     }
-    (p.kind == 0) & meets(p.span, p.stream, n, stream)
+    Block {
+        stream: p.stream,
+        span: p.span,
+    }
 }
 
-fn cd_of(row: Row, n: u64, stream: u64) -> bool
-    requires { ⌜ n < 64 ⌝ }
-    ensures { λ r. ⌜ r ≡ cdOf row n stream ⌝ }
+fn ste_of(row: Row, block: Block) -> bool
+    requires { ⌜ block .span < 64 ⌝ }
+    ensures { λ r. ⌜ r ≡ steOf row block ⌝ }
+{
+    (rows::parts_of(row).kind == 0) & meets(ste_block(row), block)
+}
+
+fn cd_of(row: Row, block: Block) -> bool
+    requires { ⌜ block .span < 64 ⌝ }
+    ensures { λ r. ⌜ r ≡ cdOf row block ⌝ }
 {
     let p = rows::parts_of(row);
-    (p.kind == 1) & meets(0, p.stream, n, stream)
+    let own = Block {
+        stream: p.stream,
+        span: 0,
+    };
+    (p.kind == 1) & meets(own, block)
 }
 
 fn cd_at(row: Row, stream: u64, substream: u64) -> bool
@@ -90,8 +112,8 @@ fn is_global(row: Row) -> bool
 }
 
 // How many bits of a stream a Range leaves open: one more than its number, which has five bits.
-fn block_of(range: u64) -> u64
-    ensures { λ r. ⌜ (r ≡ blockOf range) × (r < 64) ⌝ }
+fn open_bits(range: u64) -> u64
+    ensures { λ r. ⌜ (r ≡ openBits range) × (r < 64) ⌝ }
 {
     words::part(range, 4, 0) + 1
 }
@@ -104,16 +126,20 @@ fn removes(c: Command, row: Row) -> bool
         Command::PrefetchConfig => false,
         Command::PrefetchAddr => false,
         Command::CfgiSte(stream, leaf) => {
-            (ste_of(row, 0, stream) & not_spared(row, leaf)) | cd_of(row, 0, stream)
+            let block = Block { stream, span: 0 };
+            (ste_of(row, block) & !spared(row, leaf)) | cd_of(row, block)
         }
         Command::CfgiSteRange(stream, range) => {
-            let n = block_of(range);
-            ste_of(row, n, stream) | cd_of(row, n, stream)
+            let block = Block {
+                stream,
+                span: open_bits(range),
+            };
+            ste_of(row, block) | cd_of(row, block)
         }
         Command::CfgiCd(substream, stream, leaf) => {
-            cd_at(row, stream, substream) & not_spared(row, leaf)
+            cd_at(row, stream, substream) & !spared(row, leaf)
         }
-        Command::CfgiCdAll(stream) => cd_of(row, 0, stream),
+        Command::CfgiCdAll(stream) => cd_of(row, Block { stream, span: 0 }),
         Command::TlbiNhAll(vmid) => stage_of(row, 2, vmid),
         Command::TlbiNhAsid(vmid, asid) => stage_of(row, 2, vmid)
             & has_asid(row, asid)
@@ -121,14 +147,14 @@ fn removes(c: Command, row: Row) -> bool
         Command::TlbiNhVa(vmid, asid, target) => {
             stage_at(row, 2, vmid, target)
                 & (has_asid(row, asid) | is_global(row))
-                & not_spared(row, target.leaf)
+                & !spared(row, target.leaf)
         }
         Command::TlbiNhVaa(vmid, target) => {
-            stage_at(row, 2, vmid, target) & not_spared(row, target.leaf)
+            stage_at(row, 2, vmid, target) & !spared(row, target.leaf)
         }
         Command::TlbiS12Vmall(vmid) => stage_of(row, 2, vmid) | stage_of(row, 3, vmid),
         Command::TlbiS2Ipa(vmid, target) => {
-            stage_at(row, 3, vmid, target) & not_spared(row, target.leaf)
+            stage_at(row, 3, vmid, target) & !spared(row, target.leaf)
         }
         Command::TlbiNsnhAll => is_stage(row),
         Command::Sync(_) => false,
@@ -148,7 +174,7 @@ fn narrow(wide: bool, id: u64) -> bool
     wide | (words::part(id, 15, 8) == 0)
 }
 
-// Whether a command removes no row whatever, by its code or since an identifier is too wide.
+// Whether no row need be looked at, by the code or since an identifier is too wide.
 pub fn idle(f: Features, c: Command) -> bool
     ensures { λ r. ⌜ r ≡ idle f c ⌝ }
 {
