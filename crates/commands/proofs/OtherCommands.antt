@@ -1,18 +1,27 @@
 -- The commands that are no CMD_SYNC are not counted.
 -- Assumes nothing.
 use mathlib.Core.Path.{_≡_, refl}
-use mathlib.Core.Bool.{Bool, true, false}
+use mathlib.Core.Bool.{false}
 use mathlib.Core.List.{List, [], _∷_}
-use Prim.Native.Nat.{ℕ}
+use Prim.Native.Nat.{ℕ, zero, suc}
+use lib.Dec.{eqb}
 use types.Run.{OneOf, miss}
 use denote.Enum.Declared.{tagOf}
 use Rattle.commands.specs.declared.Command.{Command}
 use Rattle.commands.specs.declared.Command.the-variants.{PrefetchConfig, PrefetchAddr, CfgiSte, CfgiSteRange, CfgiCd, CfgiCdAll, TlbiNhAll, TlbiNhAsid, TlbiNhVa, TlbiNhVaa, TlbiS12Vmall, TlbiS2Ipa, TlbiNsnhAll, Sync}
 use Rattle.commands.proofs.Command.{the-type}
+use Rattle.words.specs.Choice.{pick}
+use Rattle.commands.specs.Formats.{howMany}
 use Rattle.commands.specs.Decoding.{isCounted}
 
+-- n numbers from i on, without s
+abbrev but : ℕ → ℕ → ℕ → List ℕ
+but s zero i = []
+but s (suc n) i = pick (eqb i s) (but s n (suc i)) (i ∷ but s n (suc i))
+
+-- the tags of the other commands: there is one command for each code
 abbrev pub others : List ℕ
-others = 0 ∷ 1 ∷ 2 ∷ 3 ∷ 4 ∷ 5 ∷ 6 ∷ 7 ∷ 8 ∷ 9 ∷ 10 ∷ 11 ∷ 12 ∷ []
+others = but (tagOf the-type (Sync 0)) howMany 0
 
 pub not-counted : (c : Command) → OneOf others (tagOf the-type c) → false ≡ isCounted c
 not-counted PrefetchConfig m = refl
@@ -28,4 +37,4 @@ not-counted (TlbiNhVaa v t) m = refl
 not-counted (TlbiS12Vmall v) m = refl
 not-counted (TlbiS2Ipa v t) m = refl
 not-counted TlbiNsnhAll m = refl
-not-counted (Sync cs) m = absurd (miss others 13 tt m)
+not-counted (Sync cs) m = absurd (miss others (tagOf the-type (Sync cs)) tt m)

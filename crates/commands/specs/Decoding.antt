@@ -46,7 +46,7 @@ parameterGood code c = not (eqb code 0x46 && eqb (get csBits c) 3)
 unfoldable pub isLegal : Features → ℕ → Bool
 isLegal f c = knownCode c && featurePresent f (codeOf c) && clean f (placeIn c) c && parameterGood (codeOf c) c
 
--- the command of a known code, with its fields as they stand
+-- a field of one bit as a yes or no
 abbrev pub isSetIn : Range → ℕ → Bool
 isSetIn r c = eqb (get r c) 1
 
@@ -54,7 +54,7 @@ isSetIn r c = eqb (get r c) 1
 abbrev pub targetOf : ℕ → ℕ → Target
 targetOf page c = record { leaf = isSetIn leafBits c; page = page }
 
--- each code but the last, with its command
+-- a command has its fields as they stand: each code but the last, with its command
 abbrev pub commandsIn : ℕ → List (ℕ × Command)
 commandsIn c =
     (0x01, PrefetchConfig)
@@ -72,7 +72,7 @@ commandsIn c =
     ∷ (0x30, TlbiNsnhAll)
     ∷ []
 
--- what stands beside a code in a list, or else the last
+-- what stands beside a code in the list, or else the last command
 abbrev pub beside : ℕ → List (ℕ × Command) → Command → Command
 beside code [] last = last
 beside code (x ∷ xs) last = pick (eqb code (x .0)) (x .1) (beside code xs last)
