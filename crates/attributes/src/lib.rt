@@ -1,4 +1,4 @@
-// Memory attributes: what is well formed, and the final rule.
+// Memory attributes: what is well formed, the fields that override them, and the final rule.
 mod formats;
 mod settling;
 
@@ -18,4 +18,12 @@ pub struct Attributes {
     pub memattr: u64,
     pub sh: u64,
     pub hints: u64,
+}
+
+// What an STE row overrides them by: MTCFG, MemAttr, SHCFG and ALLOCCFG.
+pub struct Overrides {
+    pub mtcfg: u64,
+    pub memattr: u64,
+    pub shcfg: u64,
+    pub alloccfg: u64,
 }

@@ -6,7 +6,7 @@ use lib.Dec.{eqb}
 use Rattle.words.specs.Choice.{pick}
 use Rattle.words.specs.Parts.{part}
 use Rattle.attributes.specs.declared.Attributes.{Attributes}
-use Rattle.overrides.specs.declared.Overrides.{Overrides}
+use Rattle.attributes.specs.declared.Overrides.{Overrides}
 use Rattle.attributes.specs.Formats.{outerCached, innerCached, nsh, osh, ish, innerHints, outerHints, joinHints}
 
 -- MTCFG 1 takes the row's MemAttr

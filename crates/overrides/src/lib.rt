@@ -1,5 +1,6 @@
 // Document 01, A transaction, step 2.
 use attributes::Attributes;
+use attributes::Overrides;
 use attributes::inner_cached;
 use attributes::inner_hints;
 use attributes::join_hints;
@@ -11,14 +12,6 @@ ghost use lib.Dec.{eqb};
 ghost use Rattle.words.specs.Choice.{pick};
 ghost use Rattle.words.specs.Parts.{part};
 ghost use Rattle.overrides.specs.Overrides.{overrideSh, allocated, halfHints, overrideHints, overridden, forced, instruction, privileged};
-
-// What an STE row overrides.
-pub struct Overrides {
-    pub mtcfg: u64,
-    pub memattr: u64,
-    pub shcfg: u64,
-    pub alloccfg: u64,
-}
 
 fn override_mem_attr(mtcfg: u64, row: u64, m: u64) -> u64
     ensures { λ r. ⌜ r ≡ pick (eqb mtcfg 1) row m ⌝ }

@@ -5,7 +5,7 @@ use mathlib.Core.Bool.{Bool, not, _&&_}
 use lib.Dec.{eqb, leb, ltb}
 use Rattle.words.specs.Ranges.{Range, bits, get}
 use Rattle.attributes.specs.declared.Attributes.{Attributes}
-use Rattle.overrides.specs.declared.Overrides.{Overrides}
+use Rattle.attributes.specs.declared.Overrides.{Overrides}
 use Rattle.rows.specs.declared.Row.{Row}
 use Rattle.rows.specs.declared.Parts.{Parts}
 

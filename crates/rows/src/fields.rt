@@ -2,7 +2,7 @@
 use crate::Parts;
 use crate::Row;
 use attributes::Attributes;
-use overrides::Overrides;
+use attributes::Overrides;
 ghost use mathlib.Core.Path.{_≡_};
 ghost use Prim.Native.Nat.{_<_};
 ghost use Rattle.rows.specs.Rows.{kind, isLast, span, stream, config, newMemAttr, partsOf, overridesOf, attributesOf, covers};
