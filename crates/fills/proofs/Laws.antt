@@ -18,7 +18,7 @@ use Rattle.words.proofs.Stores.{after-all, after-length, stores-keep, untouched
 use Rattle.words.proofs.Truth.{left, right, and-true, less-or-not}
 use Rattle.rows.specs.declared.Row.{Row}
 use Rattle.rows.specs.Rows.{isEmpty}
-use Rattle.rows.specs.WellFormed as rows
+use Rattle.row_forms.specs.WellFormed as rows
 use Rattle.image.specs.declared.Checked.{Checked}
 use Rattle.image.specs.declared.Checked.the-variants.{Accepted, Refused}
 use Rattle.image.specs.Image.{controlOf, rowAt, isUsed, check}

@@ -10,7 +10,7 @@ use Rattle.words.specs.Outcomes.{Outcome, with}
 use Rattle.words.specs.Stores.{Store, storeIn, afterStores}
 use Rattle.rows.specs.declared.Row.{Row}
 use Rattle.rows.specs.Rows.{isEmpty}
-use Rattle.rows.specs.WellFormed as rows
+use Rattle.row_forms.specs.WellFormed as rows
 use Rattle.image.specs.Image as image
 use Rattle.fills.specs.declared.FillEnd.{FillEnd}
 use Rattle.fills.specs.declared.FillEnd.the-variants.{Filled, Cut}

@@ -36,7 +36,7 @@ pub enum FillAnswer {
 fn is_fit(words: Row) -> bool
     ensures { λ r. ⌜ r ≡ fit words ⌝ }
 {
-    rows::well_formed(words) & !(words.w0 == 0)
+    row_forms::well_formed(words) & !(words.w0 == 0)
 }
 
 // The word that the store at a place takes: 1, 2, 3, and 0 last.

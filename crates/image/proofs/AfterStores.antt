@@ -13,7 +13,7 @@ use Rattle.words.proofs.Search.{count-same, count-less}
 use Rattle.control.specs.Control as control
 use Rattle.rows.specs.declared.Row.{Row}
 use Rattle.rows.specs.Rows.{isEmpty}
-use Rattle.rows.specs.WellFormed as rows
+use Rattle.row_forms.specs.WellFormed as rows
 use Rattle.image.specs.Image.{maxRows, controlOf, rowAt, isUsed, usedRows}
 use Rattle.image.proofs.Checks.{Long, Accepts}
 

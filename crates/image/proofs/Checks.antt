@@ -15,7 +15,7 @@ use Rattle.words.specs.declared.Found.the-variants.{At, Nothing}
 use Rattle.words.proofs.Truth.{left, right, and-true, clash}
 use Rattle.words.proofs.Search.{Lowest, from-zero, found, none, is-found, is-none}
 use Rattle.control.specs.Control as control
-use Rattle.rows.specs.WellFormed as rows
+use Rattle.row_forms.specs.WellFormed as rows
 use Rattle.image.specs.declared.Refusal.{Refusal}
 use Rattle.image.specs.declared.Refusal.the-variants.{BadLength, BadControl, BadRow}
 use Rattle.image.specs.declared.Checked.{Checked}

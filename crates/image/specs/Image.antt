@@ -12,7 +12,7 @@ use Rattle.words.specs.declared.Found.the-variants.{At, Nothing}
 use Rattle.control.specs.Control as control
 use Rattle.rows.specs.declared.Row.{Row}
 use Rattle.rows.specs.Rows.{isEmpty}
-use Rattle.rows.specs.WellFormed as rows
+use Rattle.row_forms.specs.WellFormed as rows
 use Rattle.image.specs.declared.Refusal.{Refusal}
 use Rattle.image.specs.declared.Refusal.the-variants.{BadLength, BadControl, BadRow}
 use Rattle.image.specs.declared.Checked.{Checked}

@@ -41,7 +41,7 @@ fn is_bad(kept: &[u64], i: usize) -> bool
     requires { ⌜ 4 * i + 5 ≤ length (now kept) ⌝ }
     ensures { λ r. ⌜ r ≡ isBad (now (kept .entry)) i ⌝ }
 {
-    !rows::well_formed(row_at(kept, i))
+    !row_forms::well_formed(row_at(kept, i))
 }
 
 fn lowest_bad(kept: &[u64], n: usize) -> Found

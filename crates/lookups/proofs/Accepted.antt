@@ -11,9 +11,9 @@ use Rattle.words.proofs.Truth.{left, right}
 use Rattle.attributes.specs.Formats as attributes
 use Rattle.rows.specs.declared.Row.{Row}
 use Rattle.rows.specs.Rows.{ste, cd, stage1, stage2, kind, isLast, isGlobal, span, vmid, asid, stream, newMemAttr, attributesOf, covers}
-use Rattle.rows.specs.WellFormed as rows
 use Rattle.rows.proofs.Covering.{covers-means}
-use Rattle.rows.proofs.LastLevel.{ste-mem-attr, span-few, output-placed, stage-attributes, room}
+use Rattle.row_forms.specs.WellFormed as rows
+use Rattle.row_forms.proofs.LastLevel.{ste-mem-attr, span-few, output-placed, stage-attributes, room}
 use Rattle.image.specs.Image.{rowsIn, rowAt}
 use Rattle.image.proofs.Checks.{Accepts, rows-are}
 use Rattle.lookups.specs.declared.Wanted.{Wanted}

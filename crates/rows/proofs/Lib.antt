@@ -1,3 +1,2 @@
-pub mod Masks
 pub mod Covering
 pub mod LastLevel

@@ -1,13 +1,16 @@
-// The rows of cached structures: four words, their parts, and which are well formed.
+// The rows of cached structures: four words, and their parts.
 mod fields;
-mod formed;
 
 pub use fields::attributes_of;
+pub use fields::config_of;
 pub use fields::covers;
 pub use fields::is_last;
+pub use fields::kind_of;
+pub use fields::new_mem_attr_of;
 pub use fields::overrides_of;
 pub use fields::parts_of;
-pub use formed::well_formed;
+pub use fields::span_of;
+pub use fields::stream_of;
 
 // The four words of a row.
 pub struct Row {

@@ -15,7 +15,7 @@ use Rattle.combining.proofs.Numbers.{number-lt, mem-attr-of-number, sh-of-numbe
 use Rattle.combining.proofs.Laws.{settled-combined}
 use Rattle.rows.specs.declared.Row.{Row}
 use Rattle.rows.specs.Rows.{vmid, asid, config, attributesOf}
-use Rattle.rows.specs.WellFormed.{addressBits}
+use Rattle.row_forms.specs.WellFormed.{addressBits}
 use Rattle.image.specs.Image.{rowsIn}
 use Rattle.lookups.specs.declared.Wanted.the-variants.{Ste, Stage2}
 use Rattle.lookups.specs.declared.Looked.{Looked}

@@ -1,0 +1,132 @@
+// Document 01, The kept memory: which rows are well formed.
+use rows::Row;
+use rows::attributes_of;
+use rows::config_of;
+use rows::is_last;
+use rows::kind_of;
+use rows::new_mem_attr_of;
+use rows::span_of;
+use rows::stream_of;
+ghost use mathlib.Core.Path.{_≡_};
+ghost use mathlib.Core.List.{[]};
+ghost use Prim.Native.Nat.{_<_};
+ghost use lib.ListN.{getD};
+ghost use Rattle.words.specs.Ranges.{onlyIn};
+ghost use Rattle.row_forms.specs.WellFormed.{namedParts, shape, onlyNamed, knownConfig, steGood, placed, stageGood, good, wellFormed};
+
+// The bits that may be set in a row's four words, by its kind, not last-level and last-level.
+const NAMED: [u64; 32] = [
+    // STE
+    0x0000_0000_0000_07ef,
+    0x0000_0000_ffff_ffff,
+    0,
+    0,
+    // CD
+    0x0000_0000_0000_000f,
+    0x0000_0000_ffff_ffff,
+    0,
+    0,
+    // stage 1
+    0x0000_ffff_ffff_07ff,
+    0,
+    0xffff_ffff_ffff_ffff,
+    0,
+    // stage 2
+    0x0000_0000_ffff_07ef,
+    0,
+    0xffff_ffff_ffff_ffff,
+    0,
+    // STE, last-level
+    0x7fff_0000_ffff_000f,
+    0x0070_0000_ffff_ffff,
+    0,
+    0,
+    // CD, last-level
+    0x0000_ffff_0000_000f,
+    0x000f_ffff_ffff_ffff,
+    0,
+    0,
+    // stage 1, last-level
+    0x0fff_ffff_ffff_07ff,
+    0,
+    0xffff_ffff_ffff_ffff,
+    0xffff_ffff_ffff_ffff,
+    // stage 2, last-level
+    0x003f_0000_ffff_07ef,
+    0,
+    0xffff_ffff_ffff_ffff,
+    0xffff_ffff_ffff_ffff,
+];
+
+fn within(w: u64, j: u64) -> bool
+    requires { ⌜ j < 32 ⌝ }
+    ensures { λ r. ⌜ r ≡ onlyIn (getD namedParts j []) w ⌝ }
+{
+    let at = j as usize;
+    w & NAMED[at] == w
+}
+
+fn shape_of(row: Row) -> u64
+    ensures { λ r. ⌜ (r ≡ shape row) × (r < 8) ⌝ }
+{
+    words::part(row.w0, 3, 1)
+}
+
+fn only_named(row: Row) -> bool
+    ensures { λ r. ⌜ r ≡ onlyNamed row ⌝ }
+{
+    let at = 4 * shape_of(row);
+    within(row.w0, at) & within(row.w1, at + 1) & within(row.w2, at + 2) & within(row.w3, at + 3)
+}
+
+fn known_config(c: u64) -> bool
+    ensures { λ r. ⌜ r ≡ knownConfig c ⌝ }
+{
+    (c == 0) | (4 <= c)
+}
+
+fn ste_good(row: Row) -> bool
+    ensures { λ r. ⌜ r ≡ steGood row ⌝ }
+{
+    if is_last(row) {
+        return known_config(config_of(row)) & attributes::mem_attr_formed(new_mem_attr_of(row));
+    }
+    let span = span_of(row);
+    ((span == 6) | (span == 8) | (span == 10)) & (stream_of(row) % words::power(span) == 0)
+}
+
+fn placed(n: u64, a: u64) -> bool
+    requires { ⌜ n < 64 ⌝ }
+    ensures { λ r. ⌜ r ≡ placed n a ⌝ }
+{
+    (a < words::power(52)) & (a % words::power(n) == 0)
+}
+
+fn stage_good(row: Row) -> bool
+    ensures { λ r. ⌜ r ≡ stageGood row ⌝ }
+{
+    let span = span_of(row);
+    (12 <= span)
+        & (span <= 48)
+        & placed(span, row.w2)
+        & (!is_last(row) | (placed(span, row.w3) & attributes::well_formed(attributes_of(row))))
+}
+
+fn good(row: Row) -> bool
+    ensures { λ r. ⌜ r ≡ good row ⌝ }
+{
+    let kind = kind_of(row);
+    if kind == 0 {
+        return ste_good(row);
+    }
+    if kind == 1 {
+        return true;
+    }
+    stage_good(row)
+}
+
+pub fn well_formed(row: Row) -> bool
+    ensures { λ r. ⌜ r ≡ wellFormed row ⌝ }
+{
+    (row.w0 == 0) | ((words::part(row.w0, 0, 0) == 1) & only_named(row) & good(row))
+}
