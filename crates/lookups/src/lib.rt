@@ -1,5 +1,6 @@
 // Which row answers a step of a transaction: the lowest last-level row that fits what the step wants.
 use rows::Row;
+use rows::kinds;
 use words::Found;
 ghost use mathlib.Core.Path.{_≡_};
 ghost use Prim.Native.Nat.{_+_, _*_, _≤_};
@@ -27,18 +28,18 @@ fn fits(w: Wanted, row: Row) -> bool
 {
     let p = rows::parts_of(row);
     match w {
-        Wanted::Ste(stream) => (p.kind == 0) & (p.stream == stream),
+        Wanted::Ste(stream) => (p.kind == kinds::STE) & (p.stream == stream),
         Wanted::Cd(stream, substream) => {
-            (p.kind == 1) & (p.stream == stream) & (p.substream == substream)
+            (p.kind == kinds::CD) & (p.stream == stream) & (p.substream == substream)
         }
         Wanted::Stage1(vmid, asid, address) => {
-            (p.kind == 2)
+            (p.kind == kinds::STAGE1)
                 & (p.vmid == vmid)
                 & (p.global | (p.asid == asid))
                 & rows::covers(row, address)
         }
         Wanted::Stage2(vmid, address) => {
-            (p.kind == 3) & (p.vmid == vmid) & rows::covers(row, address)
+            (p.kind == kinds::STAGE2) & (p.vmid == vmid) & rows::covers(row, address)
         }
     }
 }

@@ -4,7 +4,9 @@ use rows::attributes_of;
 use rows::config_of;
 use rows::is_last;
 use rows::kind_of;
+use rows::kinds;
 use rows::new_mem_attr_of;
+use rows::places;
 use rows::span_of;
 use rows::stream_of;
 ghost use mathlib.Core.Path.{_≡_};
@@ -69,7 +71,7 @@ fn within(w: u64, j: u64) -> bool
 fn shape_of(row: Row) -> u64
     ensures { λ r. ⌜ (r ≡ shape row) × (r < 8) ⌝ }
 {
-    words::part(row.w0, 3, 1)
+    words::part(row.w0, places::LAST_HIGH, places::KIND_LOW)
 }
 
 fn only_named(row: Row) -> bool
@@ -116,10 +118,10 @@ fn good(row: Row) -> bool
     ensures { λ r. ⌜ r ≡ good row ⌝ }
 {
     let kind = kind_of(row);
-    if kind == 0 {
+    if kind == kinds::STE {
         return ste_good(row);
     }
-    if kind == 1 {
+    if kind == kinds::CD {
         return true;
     }
     stage_good(row)
@@ -128,5 +130,8 @@ fn good(row: Row) -> bool
 pub fn well_formed(row: Row) -> bool
     ensures { λ r. ⌜ r ≡ wellFormed row ⌝ }
 {
-    (row.w0 == 0) | ((words::part(row.w0, 0, 0) == 1) & only_named(row) & good(row))
+    (row.w0 == 0)
+        | ((words::part(row.w0, places::VALID_HIGH, places::VALID_LOW) == 1)
+            & only_named(row)
+            & good(row))
 }

@@ -1,6 +1,7 @@
 // Document 01, The kept memory: a row's parts.
 use crate::Parts;
 use crate::Row;
+use crate::places;
 use attributes::Attributes;
 use attributes::Overrides;
 ghost use mathlib.Core.Path.{_≡_};
@@ -11,38 +12,38 @@ ghost use Rattle.rows.specs.Rows.{kind, isLast, span, stream, config, ne
 pub fn span_of(row: Row) -> u64
     ensures { λ r. ⌜ (r ≡ span row) × (r < 64) ⌝ }
 {
-    words::part(row.w0, 10, 5)
+    words::part(row.w0, places::SPAN_HIGH, places::SPAN_LOW)
 }
 
 pub fn kind_of(row: Row) -> u64
     ensures { λ r. ⌜ r ≡ kind row ⌝ }
 {
-    words::part(row.w0, 2, 1)
+    words::part(row.w0, places::KIND_HIGH, places::KIND_LOW)
 }
 
 pub fn is_last(row: Row) -> bool
     ensures { λ r. ⌜ r ≡ isLast row ⌝ }
 {
-    words::part(row.w0, 3, 3) == 1
+    words::part(row.w0, places::LAST_HIGH, places::LAST_LOW) == 1
 }
 
 pub fn stream_of(row: Row) -> u64
     ensures { λ r. ⌜ r ≡ stream row ⌝ }
 {
-    words::part(row.w1, 31, 0)
+    words::part(row.w1, places::STREAM_HIGH, places::STREAM_LOW)
 }
 
 pub fn config_of(row: Row) -> u64
     ensures { λ r. ⌜ r ≡ config row ⌝ }
 {
-    words::part(row.w1, 54, 52)
+    words::part(row.w1, places::CONFIG_HIGH, places::CONFIG_LOW)
 }
 
 // The MemAttr that MTCFG may take.
 pub fn new_mem_attr_of(row: Row) -> u64
     ensures { λ r. ⌜ r ≡ newMemAttr row ⌝ }
 {
-    words::part(row.w0, 52, 49)
+    words::part(row.w0, places::NEW_MEMATTR_HIGH, places::NEW_MEMATTR_LOW)
 }
 
 pub fn parts_of(row: Row) -> Parts
@@ -51,15 +52,15 @@ pub fn parts_of(row: Row) -> Parts
     Parts {
         kind: kind_of(row),
         last: is_last(row),
-        global: words::part(row.w0, 4, 4) == 1,
+        global: words::part(row.w0, places::GLOBAL_HIGH, places::GLOBAL_LOW) == 1,
         span: span_of(row),
-        vmid: words::part(row.w0, 31, 16),
-        asid: words::part(row.w0, 47, 32),
+        vmid: words::part(row.w0, places::VMID_HIGH, places::VMID_LOW),
+        asid: words::part(row.w0, places::ASID_HIGH, places::ASID_LOW),
         stream: stream_of(row),
-        substream: words::part(row.w1, 51, 32),
+        substream: words::part(row.w1, places::SUBSTREAM_HIGH, places::SUBSTREAM_LOW),
         config: config_of(row),
-        instcfg: words::part(row.w0, 60, 59),
-        privcfg: words::part(row.w0, 62, 61),
+        instcfg: words::part(row.w0, places::INSTCFG_HIGH, places::INSTCFG_LOW),
+        privcfg: words::part(row.w0, places::PRIVCFG_HIGH, places::PRIVCFG_LOW),
     }
 }
 
@@ -67,10 +68,10 @@ pub fn overrides_of(row: Row) -> Overrides
     ensures { λ r. ⌜ r ≡ overridesOf row ⌝ }
 {
     Overrides {
-        mtcfg: words::part(row.w0, 48, 48),
+        mtcfg: words::part(row.w0, places::MTCFG_HIGH, places::MTCFG_LOW),
         memattr: new_mem_attr_of(row),
-        shcfg: words::part(row.w0, 54, 53),
-        alloccfg: words::part(row.w0, 58, 55),
+        shcfg: words::part(row.w0, places::SHCFG_HIGH, places::SHCFG_LOW),
+        alloccfg: words::part(row.w0, places::ALLOCCFG_HIGH, places::ALLOCCFG_LOW),
     }
 }
 
@@ -78,9 +79,9 @@ pub fn attributes_of(row: Row) -> Attributes
     ensures { λ r. ⌜ r ≡ attributesOf row ⌝ }
 {
     Attributes {
-        memattr: words::part(row.w0, 51, 48),
-        sh: words::part(row.w0, 53, 52),
-        hints: words::part(row.w0, 59, 54),
+        memattr: words::part(row.w0, places::MEMATTR_HIGH, places::MEMATTR_LOW),
+        sh: words::part(row.w0, places::SH_HIGH, places::SH_LOW),
+        hints: words::part(row.w0, places::HINTS_HIGH, places::HINTS_LOW),
     }
 }
 

@@ -1,5 +1,7 @@
 // The rows of cached structures: four words, and their parts.
 mod fields;
+pub mod kinds;
+pub mod places;
 
 pub use fields::attributes_of;
 pub use fields::config_of;
