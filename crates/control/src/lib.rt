@@ -2,6 +2,7 @@
 pub mod places;
 mod word;
 
+pub use word::MAX_LOG2;
 pub use word::active;
 pub use word::fields_of;
 pub use word::gerror_of;
