@@ -22,6 +22,7 @@ STORES = {
     ('host', 'tell'): 1,
     ('registers', 'acknowledge'): 1,
     ('states', 'gather'): 1,
+    ('text', 'put'): 1,
 }
 # It fills its caller's array, in a loop. So nothing but an array of its caller's own is handed to it.
 GATHERS = ('states', 'gather')
