@@ -1,17 +1,15 @@
 -- `cases::lines` is safe and ends.
 -- Assumes nothing.
-use mathlib.Core.Path.{_≡_}
 use Prim.Native.Nat.{_-_}
-use lib.ListN.{length}
 use borrow.Author.Needs.{needs}
 use Rattle.cases.proofs.lines.Statement.{statement}
 use Rattle.cases.proofs.lines.Tie as tie
 
 abbrev Inv-loop : tie.InvT-loop
-Inv-loop input kept₀ queue₀ at₀ used₀ kept queue at used = (length kept ≡ length kept₀) × (length queue ≡ length queue₀)
+Inv-loop kept₀ queue₀ words₀ bytes₀ counter₀ kept queue words bytes counter = Unit {0}
 
 abbrev μ-loop : tie.MeasureT-loop
-μ-loop input kept₀ queue₀ at₀ used₀ kept queue at used = length input - at
+μ-loop kept₀ queue₀ words₀ bytes₀ counter₀ kept queue words bytes counter = 18446744073709551615 - counter
 
 pub lines-spec : {M : Type 1} → statement M
 lines-spec =
@@ -22,11 +20,11 @@ lines-spec =
     (λ c. search needs)
     (λ c κs. search needs)
     (λ c. search needs)
-    (λ c. search needs)
-    (λ c. search needs)
     (λ c κs. search needs)
-    (λ c. search needs)
-    (λ c. search needs)
+    (λ c κs. search needs)
+    (λ c κs. search needs)
+    (λ c κs. search needs)
+    (λ c κs. search needs)
     (λ c. search needs)
     (λ c. search needs)
     (λ c. search needs)

@@ -1,10 +1,10 @@
--- `cases::ask` is safe and ends.
+-- `cases::call` is safe and ends.
 -- Assumes nothing.
 use native.Mathlib.Omega.{arith}
 use lib.ListN.{length-take}
 use borrow.Author.Needs.{needs}
-use Rattle.cases.proofs.ask.Statement.{statement}
-use Rattle.cases.proofs.ask.Tie as tie
+use Rattle.cases.proofs.call.Statement.{statement}
+use Rattle.cases.proofs.call.Tie as tie
 
 slice-aggregate-call : tie.Need-slice-aggregate-call
 slice-aggregate-call c = rw length-take (omega arith)
@@ -12,17 +12,17 @@ slice-aggregate-call c = rw length-take (omega arith)
 slice-aggregate-call-2 : tie.Need-slice-aggregate-call-2
 slice-aggregate-call-2 c = rw length-take (omega arith)
 
-pub ask-spec : {M : Type 1} → statement M
-ask-spec =
+pub call-spec : {M : Type 1} → statement M
+call-spec =
     tie.close
     (tie.spec
-    (λ c. search needs)
-    (λ c. search needs)
-    (λ c. search needs)
+    (λ c κs. search needs)
     (λ c κs. search needs)
     (λ c. search needs)
     slice-aggregate-call
     slice-aggregate-call-2
     (λ c κs. search needs)
+    (λ c. search needs)
+    (λ c. search needs)
     (λ c. search needs)
     (λ c. search needs))

@@ -1,0 +1,44 @@
+// The calls, through the C interface but for a transaction's.
+use crate::show;
+use attributes::Attributes;
+
+// c asks for the state; r runs with features and an allowance; f fills a row with four words under an allowance; d rings with a
+// WR; a acknowledges; e enables or disables; t translates. A call that may store also tells every word afterwards.
+pub fn call(verb: u8, w: [u64; 8], kept: &mut [u64], queue: &[u8]) {
+    let mut answer = [0u64; 8];
+    let code = made(verb, w, &mut *kept, queue, &mut answer);
+    show::reply(verb, code, answer);
+    match verb {
+        b'c' | b't' => text::say(b"\n"),
+        _ => text::listed(b"; kept", &*kept),
+    }
+}
+
+fn made(verb: u8, w: [u64; 8], kept: &mut [u64], queue: &[u8], answer: &mut [u64; 8]) -> u64 {
+    match verb {
+        b'c' => host::tahvenno_state(&*kept, &mut *answer),
+        b'r' => host::tahvenno_run(&mut *kept, queue, w[0], w[1], &mut *answer),
+        b'f' => host::tahvenno_fill(&mut *kept, w[0], w[1], w[2], w[3], w[4], w[5], &mut *answer),
+        b'd' => host::tahvenno_doorbell(&mut *kept, w[0], &mut *answer),
+        b'a' => host::tahvenno_acknowledge(&mut *kept, &mut *answer),
+        b'e' => host::tahvenno_enable(&mut *kept, w[0], &mut *answer),
+        _ => translated(&*kept, w, &mut *answer),
+    }
+}
+
+// StreamID, SubstreamID, address, how, MemAttr, SH, hints. How: 1 write, 2 instruction, 4 privileged. C's StreamID and
+// SubstreamID have 32 bits, and the unit takes wider ones too, so they are put in behind.
+fn translated(kept: &[u64], w: [u64; 8], answer: &mut [u64; 8]) -> u64 {
+    let a = Attributes {
+        memattr: w[4],
+        sh: w[5],
+        hints: w[6],
+    };
+    let mut t = replies::transaction_of(0, 0, w[2], w[3], a);
+    t.stream = w[0];
+    t.substream = w[1];
+    let r = replies::translate_reply(transactions::translate(kept, t));
+    let words = r.words;
+    *answer = words;
+    r.code
+}
