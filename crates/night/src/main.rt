@@ -1,13 +1,13 @@
 // The fire night again: one command that takes a mapping away, and a power cut after each number of stores.
+mod nights;
 mod scene;
-mod show;
-mod told;
+mod start;
 
 fn main() {
-    told::start();
-    told::uncut();
-    told::cut(0);
-    told::cut(1);
-    told::cut(2);
-    told::cut(3);
+    start::start();
+    let whole = nights::uncut();
+    nights::cut(0, &whole);
+    nights::cut(1, &whole);
+    nights::cut(2, &whole);
+    nights::cut(3, &whole);
 }

@@ -1,8 +1,11 @@
 // What the night began with. Row 0 is a stream of the alarm guest, row 1 a mapping of the network card.
-use commands::Features;
+ghost use Prim.Native.Nat.{_≤_};
 
 // LOG2SIZE 0, RD 0, WR 1, CMDQEN 1.
 const CONTROL: u64 = 0x2_0000_0010_0000;
+
+// S1P, S2P, ASID16 and VMID16.
+pub const FEATURES: u64 = 0xf;
 
 pub fn memory() -> [u64; 9] {
     [
@@ -22,24 +25,23 @@ pub fn queue() -> [u8; 16] {
     [0x12, 0, 0, 0, 5, 0, 7, 0, 0, 0, 0, 0x80, 0, 0, 0, 0]
 }
 
-// S1P, S2P, ASID16 and VMID16.
-pub fn features() -> Features {
-    commands::features_of(0xf)
+// Whether the words from one place to another are the same in both memories: 1, else 0.
+pub fn same(a: &[u64; 9], b: &[u64; 9], from: usize, to: usize) -> u64
+    requires { ⌜ to ≤ 9 ⌝ }
+{
+    let mut i = from;
+    while i < to {
+        if a[i] != b[i] {
+            return 0;
+        }
+        i += 1;
+    }
+    1
 }
 
-pub fn same(a: &[u64; 9], b: &[u64; 9]) -> bool {
-    (a[0] == b[0])
-        & (a[1] == b[1])
-        & (a[2] == b[2])
-        & (a[3] == b[3])
-        & (a[4] == b[4])
-        & (a[5] == b[5])
-        & (a[6] == b[6])
-        & (a[7] == b[7])
-        & (a[8] == b[8])
-}
-
-// Whether row 0 has the words that it began with.
-pub fn same_row_0(a: &[u64; 9], b: &[u64; 9]) -> bool {
-    (a[1] == b[1]) & (a[2] == b[2]) & (a[3] == b[3]) & (a[4] == b[4])
+pub fn bit(b: bool) -> u64 {
+    if b {
+        return 1;
+    }
+    0
 }
