@@ -150,10 +150,16 @@ def folders():
     """Each name of the table is one function's: a second of that name would have its stores too."""
     with tempfile.TemporaryDirectory() as root, contextlib.redirect_stdout(io.StringIO()):
         for (crate, name), count in writes.STORES.items():
-            write(root, crate + '/src/lib.rt', 'fn %s(kept: &mut [u64]) { %s }\n' % (name, 'kept[0] = 1; ' * count), 'a')
-        expect('the functions of the table', writes.main(root) == 0)
-        write(root, 'steps/src/more.rt', 'fn step(kept: &mut [u64]) { kept[0] = 1; kept[1] = 1; kept[2] = 1; }\n')
-        expect('a second step', writes.main(root) == 1)
+            write(root, 'crates/%s/src/lib.rt' % crate, 'fn %s(kept: &mut [u64]) { %s }\n' % (name, 'kept[0] = 1; ' * count), 'a')
+        write(root, 'crates/text/src/lib.rt', 'fn put(out: &mut [u64]) { out[0] = 1; }\n')
+        write(root, 'crates/cases/src/main.rt', 'fn main() {}\n')
+        write(root, 'crates.txt', '# programs\ntext: io\nfills: words\ncases: fills text\n')
+        expect('the functions of the table', writes.main(os.path.join(root, 'crates')) == 0)
+        write(root, 'crates.txt', 'text: io\nfills: words text\n')
+        expect('the unit rests on what serves the programs', writes.main(os.path.join(root, 'crates')) == 1)
+        write(root, 'crates.txt', 'text: io\nfills: words\n')
+        write(root, 'crates/steps/src/more.rt', 'fn step(kept: &mut [u64]) { kept[0] = 1; kept[1] = 1; kept[2] = 1; }\n')
+        expect('a second step', writes.main(os.path.join(root, 'crates')) == 1)
 
 
 citations()

@@ -22,8 +22,9 @@ STORES = {
     ('host', 'tell'): 1,
     ('registers', 'acknowledge'): 1,
     ('states', 'gather'): 1,
-    ('text', 'put'): 1,
 }
+# No part of the unit: it reads and writes text for the programs, and no crate of the unit rests on it.
+OUTSIDE = {'text'}
 # It fills its caller's array, in a loop. So nothing but an array of its caller's own is handed to it.
 GATHERS = ('states', 'gather')
 
@@ -109,11 +110,20 @@ def wrong(crate, text):
     return found
 
 
+def unit_on_outside(folder):
+    """The libraries that rest on a crate that is no part of the unit."""
+    with open(os.path.join(folder, '..', 'crates.txt'), encoding='utf-8') as opened:
+        lines = [line.split('#')[0].split(':') for line in opened if ':' in line.split('#')[0]]
+    for name, needs in lines:
+        if os.path.isfile(os.path.join(folder, name, 'src', 'lib.rt')):
+            yield from ((name, other) for other in OUTSIDE & set(needs.split()))
+
+
 def main(folder):
     seen, bad = [], []
     for crate in sorted(os.listdir(folder)):
         source = os.path.join(folder, crate, 'src')
-        if not os.path.isfile(os.path.join(source, 'lib.rt')):
+        if crate in OUTSIDE or not os.path.isfile(os.path.join(source, 'lib.rt')):
             continue
         for file in sorted(os.listdir(source)):
             with open(os.path.join(source, file), encoding='utf-8') as opened:
@@ -121,6 +131,7 @@ def main(folder):
             seen += [(crate, name) for name, _, _ in functions(text)]
             bad += wrong(crate, text)
     bad += ['%s::%s is not the name of one function' % key for key in STORES if seen.count(key) != 1]
+    bad += ['%s rests on %s' % rests for rests in unit_on_outside(folder)]
     for line in bad:
         print(line)
     print('writes: %d functions, %d write where they may not' % (len(seen), len(bad)))
