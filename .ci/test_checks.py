@@ -133,7 +133,7 @@ def allowed():
     """What the sources do with lent words."""
     for body in [
         'let ran = running::go(&mut *kept, queue, f, v); Ran(ran)',
-        'match steps::step(&mut *kept, f, d, from) { Removed(i) => { from = i + 1; } Consumed => { left -= 1; } }',
+        'match due::step(&mut *kept, f, d, from) { Removed(i) => { from = i + 1; } Consumed => { left -= 1; } }',
         'done(kept, v, &*kept, kept[t[0]], kept.len())',
         'tell(\n        &mut *kept,\n        v,\n    )',
         'let mut all = [0u64; 5]; gather(bytes, &mut all, n); state(&all[..n])',
@@ -142,7 +142,7 @@ def allowed():
     ]:
         expect('allowed: ' + body, writes.wrong('runs', 'fn go(kept: &mut [u64], v: u64) {\n    %s\n}\n' % body) == [])
     gather = 'fn gather(out: &mut [u64], n: usize) { let mut i = 0; while i < n { out[i] = 0; i += 1; } }'
-    expect('an array of its caller\'s is filled in a loop', writes.wrong('states', gather) == [])
+    expect('an array of its caller\'s is filled in a loop', writes.wrong('image_state', gather) == [])
     expect('lent fields', writes.wrong('registers', 'fn acknowledge(r: &mut Fields) { r.gerrorn = 1; }') == [])
 
 
@@ -158,7 +158,7 @@ def folders():
         write(root, 'crates.txt', 'text: io\nfills: words text\n')
         expect('the unit rests on what serves the programs', writes.main(os.path.join(root, 'crates')) == 1)
         write(root, 'crates.txt', 'text: io\nfills: words\n')
-        write(root, 'crates/steps/src/more.rt', 'fn step(kept: &mut [u64]) { kept[0] = 1; kept[1] = 1; kept[2] = 1; }\n')
+        write(root, 'crates/due/src/more.rt', 'fn step(kept: &mut [u64]) { kept[0] = 1; kept[1] = 1; kept[2] = 1; }\n')
         expect('a second step', writes.main(os.path.join(root, 'crates')) == 1)
 
 

@@ -13,7 +13,7 @@ import sys
 
 STORES = {
     # to kept memory, of which a call makes at most one
-    ('steps', 'step'): 3,
+    ('due', 'step'): 3,
     ('fills', 'step'): 1,
     ('control_calls', 'doorbell'): 1,
     ('control_calls', 'acknowledge'): 1,
@@ -21,12 +21,12 @@ STORES = {
     # to other memory: the words of an answer, lent fields, an array of its caller's
     ('host', 'tell'): 1,
     ('registers', 'acknowledge'): 1,
-    ('states', 'gather'): 1,
+    ('image_state', 'gather'): 1,
 }
 # No part of the unit: it reads and writes text for the programs, and no crate of the unit rests on it.
 OUTSIDE = {'text'}
 # It fills its caller's array, in a loop. So nothing but an array of its caller's own is handed to it.
-GATHERS = ('states', 'gather')
+GATHERS = ('image_state', 'gather')
 
 QUOTED = r'"(?:\\.|[^"\\])*"|\'(?:\\[^\']+|[^\\\'])\'|//[^\n]*'
 TOKEN = r'\w+|<<=|>>=|\.\.=|[-+*/%&|^=!<>]=|=>|\S'

@@ -1,4 +1,4 @@
-//! What a Linux guest sent (crates/decodes/data), a queueful at a time, each time
+//! What a Linux guest sent (crates/verdicts/data), a queueful at a time, each time
 //! over the same full table.
 
 use super::{bytes, memory, shuffle, Case, Command, Per, Work, COMMANDS, ENABLED, FULL_OFF, ROWS};
@@ -7,7 +7,7 @@ use crate::model::run::End;
 use crate::rows::{cd, ste, Reach, Words, STAGE1};
 use std::collections::{BTreeMap, BTreeSet};
 
-const SENT: &[u8] = include_bytes!("../../crates/decodes/data/linux-6.12-no-ril.bin");
+const SENT: &[u8] = include_bytes!("../../crates/verdicts/data/linux-6.12-no-ril.bin");
 /// S1P and ASID16: what the guest's SMMU had.
 const FEATURES: u64 = 5;
 

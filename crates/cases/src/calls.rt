@@ -34,10 +34,10 @@ fn translated(kept: &[u64], w: [u64; 8], answer: &mut [u64; 8]) -> u64 {
         sh: w[5],
         hints: w[6],
     };
-    let mut t = replies::transaction_of(0, 0, w[2], w[3], a);
+    let mut t = interface::transaction_of(0, 0, w[2], w[3], a);
     t.stream = w[0];
     t.substream = w[1];
-    let r = replies::translate_reply(transactions::translate(kept, t));
+    let r = interface::translate_reply(transactions::translate(kept, t));
     let words = r.words;
     *answer = words;
     r.code

@@ -4,7 +4,7 @@ use mathlib.Core.Path.{_≡_, sym, _∙_}
 use mathlib.Core.List.{List}
 use Prim.Native.Nat.{ℕ}
 use Rattle.words.specs.Outcomes.{Outcome, with}
-use Rattle.replies.specs.declared.Reply.{Reply}
+use Rattle.interface.specs.declared.Reply.{Reply}
 use Rattle.host.specs.Told.{Told, Leaves}
 
 module _ {answer′ : List ℕ} {r : ℕ} {reply reply′ : Reply} where

@@ -12,9 +12,9 @@ use Rattle.fills.specs.Fills as fills
 use Rattle.control_calls.specs.Calls as control-calls
 use Rattle.transactions.specs.declared.Transaction.{Transaction}
 use Rattle.transactions.specs.Call as transactions
-use Rattle.states.specs.States as states
-use Rattle.replies.specs.declared.Reply.{Reply}
-use Rattle.replies.specs.Replies.{runReply, fillReply, doorbellReply, acknowledgeReply, enableReply, translateReply, stateReply}
+use Rattle.image_state.specs.States as states
+use Rattle.interface.specs.declared.Reply.{Reply}
+use Rattle.interface.specs.Replies.{runReply, fillReply, doorbellReply, acknowledgeReply, enableReply, translateReply, stateReply}
 use Rattle.host.specs.Told.{telling}
 
 abbrev pub run : ℕ → ℕ → List ℕ → List ℕ → Outcome (List ℕ) Reply

@@ -4,7 +4,7 @@ use mathlib.Core.Path.{_≡_}
 use mathlib.Core.List.{List}
 use Prim.Native.Nat.{ℕ}
 use Rattle.words.specs.Outcomes.{Outcome, with}
-use Rattle.replies.specs.declared.Reply.{Reply}
+use Rattle.interface.specs.declared.Reply.{Reply}
 
 -- the number returned and the answer's words are the reply's
 pub record Told (reply : Reply) (answer′ : List ℕ) (r : ℕ) : Type 0 where

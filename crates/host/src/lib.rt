@@ -1,9 +1,9 @@
 // The C interface. Each call carries out one of the unit's, and tells its outcome by numbers: it returns 0 or the refusal's
 // number, and fills the eight words of the answer. include/tahvenno.h says what each word is.
 use attributes::Attributes;
-use replies::Reply;
+use interface::Reply;
 use rows::Row;
-ghost use Rattle.replies.specs.Asked.{transactionOf};
+ghost use Rattle.interface.specs.Asked.{transactionOf};
 ghost use Rattle.host.specs.Told.{Told, Leaves};
 ghost use Rattle.host.specs.Calls.{run, fill, doorbell, acknowledge, enable, translate, state};
 
@@ -28,7 +28,7 @@ pub extern "C" fn tahvenno_run(
 {
     let f = commands::features_of(features);
     let a = runs::run(&mut *kept, queue, f, allowance);
-    tell(&mut *answer, replies::run_reply(a))
+    tell(&mut *answer, interface::run_reply(a))
 }
 
 #[no_mangle]
@@ -45,7 +45,7 @@ pub extern "C" fn tahvenno_fill(
     ensures { λ r. ⌜ Leaves (fill row (record { w0 = w0; w1 = w1; w2 = w2; w3 = w3 }) allowance (now (kept .entry))) (now (kept .exit)) (now (answer .exit)) r ⌝ }
 {
     let a = fills::fill(&mut *kept, row as usize, Row { w0, w1, w2, w3 }, allowance);
-    tell(&mut *answer, replies::fill_reply(a))
+    tell(&mut *answer, interface::fill_reply(a))
 }
 
 #[no_mangle]
@@ -53,7 +53,7 @@ pub extern "C" fn tahvenno_doorbell(kept: &mut [u64], wr: u64, answer: &mut [u64
     ensures { λ r. ⌜ Leaves (doorbell wr (now (kept .entry))) (now (kept .exit)) (now (answer .exit)) r ⌝ }
 {
     let a = control_calls::doorbell(&mut *kept, wr);
-    tell(&mut *answer, replies::doorbell_reply(a))
+    tell(&mut *answer, interface::doorbell_reply(a))
 }
 
 #[no_mangle]
@@ -61,7 +61,7 @@ pub extern "C" fn tahvenno_acknowledge(kept: &mut [u64], answer: &mut [u64; 8]) 
     ensures { λ r. ⌜ Leaves (acknowledge (now (kept .entry))) (now (kept .exit)) (now (answer .exit)) r ⌝ }
 {
     let a = control_calls::acknowledge(&mut *kept);
-    tell(&mut *answer, replies::acknowledge_reply(a))
+    tell(&mut *answer, interface::acknowledge_reply(a))
 }
 
 #[no_mangle]
@@ -69,7 +69,7 @@ pub extern "C" fn tahvenno_enable(kept: &mut [u64], on: u64, answer: &mut [u64; 
     ensures { λ r. ⌜ Leaves (enable on (now (kept .entry))) (now (kept .exit)) (now (answer .exit)) r ⌝ }
 {
     let a = control_calls::enable(&mut *kept, !(on == 0));
-    tell(&mut *answer, replies::enable_reply(a))
+    tell(&mut *answer, interface::enable_reply(a))
 }
 
 #[no_mangle]
@@ -86,7 +86,7 @@ pub extern "C" fn tahvenno_translate(
 ) -> u64
     ensures { λ r. ⌜ Told (translate (transactionOf stream substream address how (record { memattr = memattr; sh = sh; hints = hints })) (now (kept .entry))) (now (answer .exit)) r ⌝ }
 {
-    let t = replies::transaction_of(
+    let t = interface::transaction_of(
         stream,
         substream,
         address,
@@ -95,7 +95,7 @@ pub extern "C" fn tahvenno_translate(
     );
     tell(
         &mut *answer,
-        replies::translate_reply(transactions::translate(kept, t)),
+        interface::translate_reply(transactions::translate(kept, t)),
     )
 }
 
@@ -103,5 +103,5 @@ pub extern "C" fn tahvenno_translate(
 pub extern "C" fn tahvenno_state(kept: &[u64], answer: &mut [u64; 8]) -> u64
     ensures { λ r. ⌜ Told (state (now (kept .entry))) (now (answer .exit)) r ⌝ }
 {
-    tell(&mut *answer, replies::state_reply(states::state_of(kept)))
+    tell(&mut *answer, interface::state_reply(image_state::state_of(kept)))
 }

@@ -12,8 +12,8 @@ use Rattle.commands.specs.declared.Decoded.the-variants.{Legal}
 use Rattle.image.specs.Image.{rowsIn, controlOf}
 use Rattle.image.proofs.Checks.{Accepts, rows-are}
 use Rattle.image.proofs.AfterStores.{control-stored, row-cleared}
-use Rattle.steps.specs.Due.{What}
-use Rattle.steps.proofs.Consuming.{after-formed}
+use Rattle.due.specs.Due.{What}
+use Rattle.due.proofs.Consuming.{after-formed}
 use Rattle.runs.specs.Running.{Next, stores, dueIn, run}
 use Rattle.promises.proofs.Cases.{Case, removes, consumes, raises, IsDue, is-due}
 use Rattle.promises.proofs.Sums.{run-keeps}

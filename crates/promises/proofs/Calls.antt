@@ -20,8 +20,8 @@ use Rattle.image.specs.declared.Checked.the-variants.{Accepted, Refused as NotA
 use Rattle.image.specs.Image.{check, controlOf}
 use Rattle.image.proofs.Checks.{Accepts, accepts, says}
 use Rattle.image.proofs.AfterStores.{cleared-control}
-use Rattle.steps.specs.Due.{What, afterCommand}
-use Rattle.steps.proofs.Consuming.{after-keeps}
+use Rattle.due.specs.Due.{What, afterCommand}
+use Rattle.due.proofs.Consuming.{after-keeps}
 use Rattle.runs.specs.declared.RunRefusal.{RunRefusal}
 use Rattle.runs.specs.declared.RunRefusal.the-variants.{Image, BadQueue}
 use Rattle.runs.specs.declared.RunAnswer.{RunAnswer}

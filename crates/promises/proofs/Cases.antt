@@ -20,8 +20,8 @@ use Rattle.commands.specs.declared.Decoded.the-variants.{Legal, Illegal}
 use Rattle.commands.specs.Decoding.{syncsOf}
 use Rattle.image.specs.Image.{rowsIn, controlOf}
 use Rattle.image.proofs.AfterStores.{cleared}
-use Rattle.steps.specs.Due.{What, Remove, Consume, Raise, Due, Rests, Stores, scopedAt, scan, byScan, afterCommand, dueFor, atRd, gate, due}
-use Rattle.steps.proofs.Scans.{lowest-scoped}
+use Rattle.due.specs.Due.{What, Remove, Consume, Raise, Due, Rests, Stores, scopedAt, scan, byScan, afterCommand, dueFor, atRd, gate, due}
+use Rattle.due.proofs.Scans.{lowest-scoped}
 use Rattle.runs.specs.Running.{Next, rests, stores, nextOf, dueIn}
 
 -- the store is one of three: the lowest row in scope of a legal command, the command itself once there is none, or the error

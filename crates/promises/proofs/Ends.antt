@@ -17,7 +17,7 @@ use Rattle.commands.specs.declared.Features.{Features}
 use Rattle.commands.specs.declared.Decoded.the-variants.{Illegal}
 use Rattle.image.specs.Image.{controlOf}
 use Rattle.image.proofs.Checks.{Accepts}
-use Rattle.steps.specs.Due.{Remove, Consume, Raise}
+use Rattle.due.specs.Due.{Remove, Consume, Raise}
 use Rattle.runs.specs.declared.End.{End}
 use Rattle.runs.specs.declared.End.the-variants.{Off, Held, Empty, Raised, Cut}
 use Rattle.runs.specs.Running.{Out, Next, rests, stores, last, next, runBy, endOf, dueIn, run}

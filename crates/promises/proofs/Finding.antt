@@ -32,8 +32,8 @@ use Rattle.rows.specs.Rows.{isEmpty}
 use Rattle.image.specs.Image.{rowsIn, controlOf, rowAt}
 use Rattle.image.proofs.Checks.{Accepts, rows-are}
 use Rattle.image.proofs.AfterStores.{cleared, cleared-control, cleared-other, row-kept, InRow}
-use Rattle.steps.specs.Due.{What, Remove, Consume, Raise, scopedAt, scan, afterCommand, atRd}
-use Rattle.steps.proofs.Scans.{gone as gone-now, others as others-scoped}
+use Rattle.due.specs.Due.{What, Remove, Consume, Raise, scopedAt, scan, afterCommand, atRd}
+use Rattle.due.proofs.Scans.{gone as gone-now, others as others-scoped}
 use Rattle.runs.specs.declared.End.{End}
 use Rattle.runs.specs.declared.End.the-variants.{Off, Held, Empty, Raised, Cut}
 use Rattle.runs.specs.Running.{Out, Next, rests, stores, rested, plus, last, next, runBy, dueIn, run, endOf}

@@ -21,7 +21,7 @@ use Rattle.commands.specs.declared.Features.{Features}
 use Rattle.commands.specs.declared.Decoded.the-variants.{Illegal}
 use Rattle.commands.specs.Decoding.{decodeAt}
 use Rattle.image.specs.Image.{controlOf}
-use Rattle.steps.specs.Due.{Raise, dueFor, atRd, due}
+use Rattle.due.specs.Due.{Raise, dueFor, atRd, due}
 use Rattle.runs.specs.declared.End.the-variants.{Off, Held, Raised, Cut}
 use Rattle.runs.specs.Running.{rests, stores, rested, plus, runBy, dueIn, run}
 use Rattle.runs.proofs.Turns.{run-rests, due-rests}

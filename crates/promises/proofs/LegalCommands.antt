@@ -24,8 +24,8 @@ use Rattle.commands.specs.Decoding.{decodeAt, syncsOf}
 use Rattle.image.specs.Image.{rowsIn, controlOf}
 use Rattle.image.proofs.Checks.{Accepts, rows-are}
 use Rattle.image.proofs.AfterStores.{cleared, cleared-control, row-cleared}
-use Rattle.steps.specs.Due.{Remove, Consume, scopedAt, scan, afterCommand, dueFor, atRd, due}
-use Rattle.steps.proofs.Scans.{lowest-scoped, gone as gone-now, others as others-scoped}
+use Rattle.due.specs.Due.{Remove, Consume, scopedAt, scan, afterCommand, dueFor, atRd, due}
+use Rattle.due.proofs.Scans.{lowest-scoped, gone as gone-now, others as others-scoped}
 use Rattle.runs.specs.Running.{stores, plus, runBy, dueIn, run}
 use Rattle.runs.proofs.Turns.{plus-plus}
 use Rattle.promises.specs.Places.{word0}

@@ -9,7 +9,7 @@ use native.Mathlib.Omega.{arith}
 use native.Mathlib.Numerals.{one-add}
 use lib.ListN.{length, take, getD, length-take}
 use lib.Seq.{take-nil, getD-take}
-use Rattle.steps.specs.Due.{What, Remove, Consume, Raise}
+use Rattle.due.specs.Due.{What, Remove, Consume, Raise}
 use Rattle.runs.specs.Running.{Out, Next, rests, stores, last, next, runBy}
 use Rattle.promises.specs.Order.{passedNext, passed}
 

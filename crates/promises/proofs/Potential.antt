@@ -19,8 +19,8 @@ use Rattle.scopes.proofs.Laws.{scoped}
 use Rattle.image.specs.Image.{rowsIn, controlOf, rowAt, isUsed, usedRows}
 use Rattle.image.proofs.Checks.{Accepts, rows-are}
 use Rattle.image.proofs.AfterStores.{cleared, cleared-control, used-kept, used-cleared}
-use Rattle.steps.specs.Due.{What, Remove, Consume, Raise, scopedAt, afterCommand}
-use Rattle.steps.proofs.Consuming.{after-distance}
+use Rattle.due.specs.Due.{What, Remove, Consume, Raise, scopedAt, afterCommand}
+use Rattle.due.proofs.Consuming.{after-distance}
 use Rattle.runs.specs.declared.End.the-variants.{Cut}
 use Rattle.runs.specs.Running.{Out, Next, rests, stores, rested, plus, last, next, runBy, dueIn, run}
 use Rattle.promises.specs.Places.{word0}

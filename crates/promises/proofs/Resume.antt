@@ -8,7 +8,7 @@ use native.Mathlib.Nat.{zero-add, add-zero, suc-add}
 use native.Mathlib.Omega.{arith}
 use Rattle.control.specs.declared.Rest.{Rest}
 use Rattle.control.specs.declared.Rest.the-variants.{Off as Rest·Off, Held as Rest·Held, Empty as Rest·Empty}
-use Rattle.steps.specs.Due.{What, Remove, Consume, Raise}
+use Rattle.due.specs.Due.{What, Remove, Consume, Raise}
 use Rattle.runs.specs.declared.End.{End}
 use Rattle.runs.specs.declared.End.the-variants.{Off, Held, Empty, Raised, Cut}
 use Rattle.runs.specs.Running.{Out, Next, rests, stores, rested, plus, last, next, runBy, endOf}

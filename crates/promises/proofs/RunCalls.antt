@@ -19,7 +19,7 @@ use Rattle.image.specs.declared.Checked.{Checked}
 use Rattle.image.specs.declared.Checked.the-variants.{Accepted, Refused as NotAccepted}
 use Rattle.image.specs.Image.{check, controlOf}
 use Rattle.image.proofs.Checks.{Accepts, accepts}
-use Rattle.steps.specs.Due.{What, Remove, Consume, Raise}
+use Rattle.due.specs.Due.{What, Remove, Consume, Raise}
 use Rattle.runs.specs.declared.End.the-variants.{Held, Raised}
 use Rattle.runs.specs.declared.RunRefusal.the-variants.{BadQueue}
 use Rattle.runs.specs.Running.{Out, Next, rests, stores, rested, last, next, runBy, dueIn, run, endOf}

@@ -8,7 +8,7 @@ use Rattle.control.specs.Control as control
 use Rattle.commands.specs.declared.Features.{Features}
 use Rattle.commands.specs.declared.Decoded.the-variants.{Illegal}
 use Rattle.image.specs.Image.{controlOf}
-use Rattle.steps.specs.Due.{What, atRd}
+use Rattle.due.specs.Due.{What, atRd}
 use Rattle.runs.specs.declared.End.{End}
 use Rattle.runs.specs.declared.End.the-variants.{Off, Held, Empty, Raised, Cut}
 use Rattle.runs.specs.Running.{Out, Next, stores, dueIn}

@@ -14,7 +14,7 @@ use Rattle.commands.specs.declared.Decoded.{Decoded}
 use Rattle.commands.specs.declared.Decoded.the-variants.{Legal, Illegal}
 use Rattle.commands.specs.Decoding.{decodeAt}
 use Rattle.image.specs.Image.{controlOf}
-use Rattle.steps.specs.Due.{scopedAt, afterCommand}
+use Rattle.due.specs.Due.{scopedAt, afterCommand}
 use Rattle.runs.specs.declared.End.{End}
 use Rattle.runs.specs.declared.End.the-variants.{Off, Held, Empty, Raised, Cut}
 use Rattle.promises.specs.Places.{word0}

@@ -2,7 +2,7 @@
 -- Assumes nothing.
 use mathlib.Core.List.{List, [], _∷_}
 use Prim.Native.Nat.{ℕ, zero, suc}
-use Rattle.steps.specs.Due.{What, Remove, Consume, Raise}
+use Rattle.due.specs.Due.{What, Remove, Consume, Raise}
 use Rattle.runs.specs.Running.{Next, rests, stores}
 
 abbrev pub passedNext : {M : Type 0} → (M → List M) → Next M → List M

@@ -1,7 +1,7 @@
 -- Document 01, One run: the sums.
 -- Assumes nothing.
 use Prim.Native.Nat.{ℕ}
-use Rattle.steps.specs.Due.{What, Remove, Consume, Raise}
+use Rattle.due.specs.Due.{What, Remove, Consume, Raise}
 use Rattle.runs.specs.declared.End.{End}
 use Rattle.runs.specs.declared.End.the-variants.{Off, Held, Empty, Raised, Cut}
 

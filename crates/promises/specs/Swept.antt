@@ -11,7 +11,7 @@ use Rattle.commands.specs.declared.Command.{Command}
 use Rattle.commands.specs.declared.Decoded.the-variants.{Legal}
 use Rattle.commands.specs.Decoding.{syncsOf}
 use Rattle.image.specs.Image.{controlOf}
-use Rattle.steps.specs.Due.{scopedAt, afterCommand}
+use Rattle.due.specs.Due.{scopedAt, afterCommand}
 use Rattle.runs.specs.Running.{plus, run}
 use Rattle.promises.specs.Places.{word0}
 

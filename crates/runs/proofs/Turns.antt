@@ -22,12 +22,12 @@ use Rattle.commands.specs.declared.Decoded.the-variants.{Legal, Illegal}
 use Rattle.commands.specs.Decoding.{decodeAt, syncsOf}
 use Rattle.image.specs.Image.{maxRows, rowsIn, controlOf}
 use Rattle.image.proofs.AfterStores.{cleared, cleared-control}
-use Rattle.steps.specs.declared.Stepped.{Stepped}
-use Rattle.steps.specs.declared.Stepped.the-variants.{Removed, Consumed, DidRaise}
-use Rattle.steps.specs.Due.{Due, Rests, Stores, scan, byScan, afterCommand, noneBelow, dueFor, due, Ready, Made}
-use Rattle.steps.proofs.Scans.{lowest-scoped, goes-on}
-use Rattle.steps.proofs.Asked.{Removes, due-removes}
-use Rattle.steps.proofs.Consuming.{after-keeps}
+use Rattle.due.specs.declared.Stepped.{Stepped}
+use Rattle.due.specs.declared.Stepped.the-variants.{Removed, Consumed, DidRaise}
+use Rattle.due.specs.Due.{Due, Rests, Stores, scan, byScan, afterCommand, noneBelow, dueFor, due, Ready, Made}
+use Rattle.due.proofs.Scans.{lowest-scoped, goes-on}
+use Rattle.due.proofs.Asked.{Removes, due-removes}
+use Rattle.due.proofs.Consuming.{after-keeps}
 use Rattle.runs.specs.declared.End.{End}
 use Rattle.runs.specs.declared.End.the-variants.{Raised, Cut}
 use Rattle.runs.specs.declared.Ran.{Ran}

@@ -9,7 +9,7 @@ use Rattle.control.specs.declared.Rest.{Rest}
 use Rattle.control.specs.declared.Rest.the-variants.{Off as Rest·Off, Held as Rest·Held, Empty as Rest·Empty}
 use Rattle.commands.specs.declared.Features.{Features}
 use Rattle.image.specs.Image.{maxRows, rowsIn, controlOf}
-use Rattle.steps.specs.Due.{What, Remove, Consume, Raise, Due, Rests, Stores, due}
+use Rattle.due.specs.Due.{What, Remove, Consume, Raise, Due, Rests, Stores, due}
 use Rattle.runs.specs.declared.End.{End}
 use Rattle.runs.specs.declared.End.the-variants.{Off, Held, Empty, Raised, Cut}
 use Rattle.runs.specs.declared.Ran.{Ran}

@@ -5,7 +5,7 @@ use commands::Decoded;
 use commands::Features;
 use control::Rest;
 use control::Standing;
-use steps::Stepped;
+use due::Stepped;
 ghost use mathlib.Core.Path.{_≡_};
 ghost use Prim.Native.Nat.{_*_, _^_};
 ghost use lib.ListN.{length};
@@ -64,7 +64,7 @@ pub fn go(kept: &mut [u64], queue: &[u8], f: Features, allowance: u64) -> Ran
             }
             left -= 1;
             stores += 1;
-            match steps::step(&mut *kept, f, d, from) {
+            match due::step(&mut *kept, f, d, from) {
                 Stepped::Removed(i) => {
                     removed += 1;
                     from = i + 1;

@@ -3,13 +3,13 @@
 use image::Refusal;
 use libc::STDIN_FILENO;
 use libc::STDOUT_FILENO;
-use states::State;
-use states::StateAnswer;
+use image_state::State;
+use image_state::StateAnswer;
 
 fn main() {
     let mut input = io::large_buffer();
     let n = io::read_full(STDIN_FILENO, &mut input);
-    match states::state_in(&input[..n]) {
+    match image_state::state_in(&input[..n]) {
         StateAnswer::Refused(why) => refused(why),
         StateAnswer::Is(s) => told(s),
     }

@@ -1,7 +1,7 @@
 -- `host::tahvenno_doorbell` meets its contract.
 -- Assumes nothing.
 use mathlib.Core.Path.{_≡_, ap, _∙_}
-use Rattle.replies.specs.Replies.{doorbellReply}
+use Rattle.interface.specs.Replies.{doorbellReply}
 use Rattle.host.proofs.Laws.{leaves}
 use borrow.Author.Needs.{needs}
 use Rattle.host.proofs.tahvenno_doorbell.Statement.{statement}

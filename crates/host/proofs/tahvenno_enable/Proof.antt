@@ -1,7 +1,7 @@
 -- `host::tahvenno_enable` meets its contract.
 -- Assumes nothing.
 use mathlib.Core.Path.{_≡_, ap, _∙_}
-use Rattle.replies.specs.Replies.{enableReply}
+use Rattle.interface.specs.Replies.{enableReply}
 use Rattle.host.proofs.Laws.{leaves}
 use borrow.Author.Needs.{needs}
 use Rattle.host.proofs.tahvenno_enable.Statement.{statement}

@@ -1,7 +1,7 @@
 -- `host::tahvenno_run` meets its contract.
 -- Assumes nothing.
 use mathlib.Core.Path.{_≡_, ap, _∙_}
-use Rattle.replies.specs.Replies.{runReply}
+use Rattle.interface.specs.Replies.{runReply}
 use Rattle.host.proofs.Laws.{leaves}
 use borrow.Author.Needs.{needs}
 use Rattle.host.proofs.tahvenno_run.Statement.{statement}

@@ -1,7 +1,7 @@
 -- `host::tahvenno_state` meets its contract.
 -- Assumes nothing.
 use mathlib.Core.Path.{_≡_, ap, _∙_}
-use Rattle.replies.specs.Replies.{stateReply}
+use Rattle.interface.specs.Replies.{stateReply}
 use Rattle.host.proofs.Laws.{tells}
 use borrow.Author.Needs.{needs}
 use Rattle.host.proofs.tahvenno_state.Statement.{statement}

@@ -1,7 +1,7 @@
 -- `host::tahvenno_translate` meets its contract.
 -- Assumes nothing.
 use mathlib.Core.Path.{_≡_, ap, _∙_}
-use Rattle.replies.specs.Replies.{translateReply}
+use Rattle.interface.specs.Replies.{translateReply}
 use Rattle.host.proofs.Laws.{tells}
 use borrow.Author.Needs.{needs}
 use Rattle.host.proofs.tahvenno_translate.Statement.{statement}

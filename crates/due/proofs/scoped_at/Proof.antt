@@ -1,0 +1,13 @@
+-- `steps::scoped_at` meets its contract.
+-- Assumes nothing.
+use Rattle.due.specs.Due.{scopedAt}
+use borrow.Author.Needs.{needs}
+use Rattle.due.proofs.scoped_at.Statement.{statement}
+use Rattle.due.proofs.scoped_at.Tie as tie
+
+returns : tie.Need-returns
+unfolding scopedAt
+returns c = rw (c .in-scope .ensures, c .before .row-at .ensures)
+
+pub scoped-at-spec : {M : Type 1} → statement M
+scoped-at-spec = tie.close (tie.spec (λ c κs. search needs) (λ c κs. search needs) returns)

@@ -1,0 +1,96 @@
+-- Document 01, One run: what single store is due, from features, queue and memory alone.
+-- Assumes nothing.
+use mathlib.Core.Path.{_≡_}
+use mathlib.Core.Bool.{Bool}
+use mathlib.Core.List.{List, [], _∷_}
+use Prim.Native.Nat.{ℕ, _+_, _-_, _*_, _≤_}
+use lib.ListN.{length, set}
+use Rattle.words.specs.Choice.{pick}
+use Rattle.words.specs.Ranges.{Range}
+use Rattle.words.specs.Search.{lowest}
+use Rattle.words.specs.declared.Found.{Found}
+use Rattle.words.specs.declared.Found.the-variants.{At, Nothing}
+use Rattle.control.specs.Control as control
+use Rattle.control.specs.declared.Rest.{Rest}
+use Rattle.control.specs.declared.Standing.{Standing}
+use Rattle.control.specs.declared.Standing.the-variants.{Resting, Open}
+use Rattle.control_stores.specs.Stores as control-stores
+use Rattle.commands.specs.declared.Features.{Features}
+use Rattle.commands.specs.declared.Command.{Command}
+use Rattle.commands.specs.declared.Decoded.{Decoded}
+use Rattle.commands.specs.declared.Decoded.the-variants.{Legal, Illegal}
+use Rattle.commands.specs.Decoding.{decodeAt, syncsOf}
+use Rattle.scopes.specs.Scopes.{inScope}
+use Rattle.image.specs.Image.{rowsIn, controlOf, rowAt}
+use Rattle.due.specs.declared.Stepped.{Stepped}
+use Rattle.due.specs.declared.Stepped.the-variants.{Removed, Consumed, DidRaise}
+
+-- what a store does: it removes a row, consumes a command, of which so many CMD_SYNCs with CS 1, or raises the error
+pub data What : Type 0 where
+  Remove : What
+  Consume : ℕ → What
+  Raise : What
+
+-- nothing is due, or one store: its place, its word, and what it does
+pub data Due : Type 0 where
+  Rests : Rest → Due
+  Stores : ℕ → ℕ → What → Due
+
+-- row i is in the command's scope
+unfoldable pub scopedAt : Features → Command → List ℕ → ℕ → Bool
+scopedAt f command m i = inScope f command (rowAt m i)
+
+-- the lowest row in scope, of the n from row i on
+abbrev pub scan : Features → Command → List ℕ → ℕ → ℕ → Found
+scan f command m n i = lowest (scopedAt f command m) n i
+
+-- the control word after a command is consumed, and the parts of it that this touches
+unfoldable pub afterCommand : Decoded → ℕ → ℕ
+afterCommand d w = control-stores.consumed w
+
+abbrev pub consumes : List Range
+consumes = control.rdBits ∷ []
+
+-- a legal command: the lowest row in scope goes; once there is none, the command is consumed
+abbrev pub byScan : Command → ℕ → Found → Due
+byScan command w (At i) = Stores (4 * i + 1) 0 Remove
+byScan command w Nothing = Stores 0 (afterCommand (Legal command) w) (Consume (syncsOf (Legal command)))
+
+-- the command at RD; an illegal one raises the error
+unfoldable pub dueFor : Features → Decoded → List ℕ → Due
+dueFor f (Legal command) m = byScan command (controlOf m) (scan f command m (rowsIn m) 0)
+dueFor f Illegal m = Stores 0 (control-stores.raised (controlOf m)) Raise
+
+abbrev pub atRd : Features → List ℕ → List ℕ → Decoded
+atRd f queue m = decodeAt f queue (control.slot (controlOf m))
+
+abbrev pub gate : Standing → Due → Due
+gate (Resting rest) d = Rests rest
+gate Open d = d
+
+unfoldable pub due : Features → List ℕ → List ℕ → Due
+due f queue m = gate (control.standing (controlOf m)) (dueFor f (atRd f queue m) m)
+
+-- the memory after the store
+abbrev pub made : Due → List ℕ → List ℕ
+made (Rests rest) m = m
+made (Stores i v what) m = set m i v
+
+-- A step answers which store it made. It is handed the place where its scan goes on: no row below it is in scope.
+abbrev pub storeOf : Decoded → List ℕ → Stepped → Due
+storeOf d m (Removed i) = Stores (4 * i + 1) 0 Remove
+storeOf d m Consumed = Stores 0 (afterCommand d (controlOf m)) (Consume (syncsOf d))
+storeOf d m DidRaise = Stores 0 (control-stores.raised (controlOf m)) Raise
+
+abbrev pub noneBelow : Features → Decoded → List ℕ → ℕ → Type 0
+noneBelow f (Legal command) m from = scan f command m (rowsIn m - from) from ≡ scan f command m (rowsIn m) 0
+noneBelow f Illegal m from = from ≡ 0
+
+pub record Ready (f : Features) (d : Decoded) (from : ℕ) (m : List ℕ) : Type 0 where
+  pub room : 4 * rowsIn m + 1 ≤ length m
+  pub high : from ≤ rowsIn m
+  pub none-below : noneBelow f d m from
+
+pub record Made (f : Features) (d : Decoded) (m m′ : List ℕ) (r : Stepped) : Type 0 where
+  pub is-due : dueFor f d m ≡ storeOf d m r
+  pub stored : m′ ≡ made (storeOf d m r) m
