@@ -103,5 +103,8 @@ pub extern "C" fn tahvenno_translate(
 pub extern "C" fn tahvenno_state(kept: &[u64], answer: &mut [u64; 8]) -> u64
     ensures { λ r. ⌜ Told (state (now (kept .entry))) (now (answer .exit)) r ⌝ }
 {
-    tell(&mut *answer, interface::state_reply(image_state::state_of(kept)))
+    tell(
+        &mut *answer,
+        interface::state_reply(image_state::state_of(kept)),
+    )
 }

@@ -1,4 +1,4 @@
--- What a command removes, and whether it is idle, by the tests that its case makes.
+-- What each code removes, and whether a command is idle, by the tests that the code makes.
 -- Assumes nothing.
 use mathlib.Core.Path.{_≡_}
 use mathlib.Core.Bool.{Bool, false, not, _&&_, _||_}
@@ -11,69 +11,53 @@ use Rattle.commands.specs.declared.Command.{Command}
 use Rattle.commands.specs.declared.Command.the-variants.{PrefetchConfig, PrefetchAddr, CfgiSte, CfgiSteRange, CfgiCd, CfgiCdAll, TlbiNhAll, TlbiNhAsid, TlbiNhVa, TlbiNhVaa, TlbiS12Vmall, TlbiS2Ipa, TlbiNsnhAll, Sync}
 use Rattle.scopes.specs.Scopes.{spared, one, openBits, steOf, cdOf, cdAt, stageOf, stageAt, hasAsid, isStage, narrow, removes, tooWide, idle}
 
-module _ (c : Command) (row : Row) where
-  pub removes-01 : c ≡ PrefetchConfig → false ≡ removes c row
+module _ (row : Row) where
+  pub removes-03 : (s : ℕ) (l : Bool) (x y z : Bool) → x ≡ steOf row (one s) → y ≡ spared row l → z ≡ cdOf row (one s)
+      → (x && not y || z) ≡ removes (CfgiSte s l) row
   unfolding removes
-  removes-01 e = rw e
+  removes-03 s l x y z p q r = rw (p, q, r)
 
-  pub removes-02 : c ≡ PrefetchAddr → false ≡ removes c row
+  pub removes-04 : (s r n : ℕ) (x y : Bool) → n ≡ openBits r → x ≡ steOf row (record { stream = s; span = n })
+      → y ≡ cdOf row (record { stream = s; span = n }) → (x || y) ≡ removes (CfgiSteRange s r) row
   unfolding removes
-  removes-02 e = rw e
+  removes-04 s r n x y i p q = rw (p, q, i)
 
-  pub removes-03 : (s : ℕ) (l : Bool) (x y z : Bool) → c ≡ CfgiSte s l → x ≡ steOf row (one s) → y ≡ spared row l → z ≡ cdOf row (one s)
-      → (x && not y || z) ≡ removes c row
+  pub removes-05 : (u s : ℕ) (l : Bool) (x y : Bool) → x ≡ cdAt row s u → y ≡ spared row l → (x && not y) ≡ removes (CfgiCd u s l) row
   unfolding removes
-  removes-03 s l x y z e p q r = rw (e, p, q, r)
+  removes-05 u s l x y p q = rw (p, q)
 
-  pub removes-04 : (s r n : ℕ) (x y : Bool) → c ≡ CfgiSteRange s r → n ≡ openBits r → x ≡ steOf row (record { stream = s; span = n })
-      → y ≡ cdOf row (record { stream = s; span = n }) → (x || y) ≡ removes c row
+  pub removes-06 : (s : ℕ) (x : Bool) → x ≡ cdOf row (one s) → x ≡ removes (CfgiCdAll s) row
   unfolding removes
-  removes-04 s r n x y e i p q = rw (e, p, q, i)
+  removes-06 s x p = rw p
 
-  pub removes-05 : (u s : ℕ) (l : Bool) (x y : Bool) → c ≡ CfgiCd u s l → x ≡ cdAt row s u → y ≡ spared row l → (x && not y) ≡ removes c row
+  pub removes-10 : (v : ℕ) (x : Bool) → x ≡ stageOf row rows.stage1 v → x ≡ removes (TlbiNhAll v) row
   unfolding removes
-  removes-05 u s l x y e p q = rw (e, p, q)
+  removes-10 v x p = rw p
 
-  pub removes-06 : (s : ℕ) (x : Bool) → c ≡ CfgiCdAll s → x ≡ cdOf row (one s) → x ≡ removes c row
+  pub removes-11 : (v a : ℕ) (x y z : Bool) → x ≡ stageOf row rows.stage1 v → y ≡ hasAsid row a → z ≡ rows.isGlobal row
+      → (x && y && not z) ≡ removes (TlbiNhAsid v a) row
   unfolding removes
-  removes-06 s x e p = rw (e, p)
+  removes-11 v a x y z p q r = rw (p, q, r)
 
-  pub removes-10 : (v : ℕ) (x : Bool) → c ≡ TlbiNhAll v → x ≡ stageOf row rows.stage1 v → x ≡ removes c row
+  pub removes-12 : (v a : ℕ) (t : Target) (x y z w : Bool) → x ≡ stageAt row rows.stage1 v t → y ≡ hasAsid row a
+      → z ≡ rows.isGlobal row → w ≡ spared row (t .leaf) → (x && (y || z) && not w) ≡ removes (TlbiNhVa v a t) row
   unfolding removes
-  removes-10 v x e p = rw (e, p)
+  removes-12 v a t x y z w p q r s = rw (p, q, r, s)
 
-  pub removes-11 : (v a : ℕ) (x y z : Bool) → c ≡ TlbiNhAsid v a → x ≡ stageOf row rows.stage1 v → y ≡ hasAsid row a → z ≡ rows.isGlobal row
-      → (x && y && not z) ≡ removes c row
+  pub removes-13 : (v : ℕ) (t : Target) (x y : Bool) → x ≡ stageAt row rows.stage1 v t → y ≡ spared row (t .leaf)
+      → (x && not y) ≡ removes (TlbiNhVaa v t) row
   unfolding removes
-  removes-11 v a x y z e p q r = rw (e, p, q, r)
+  removes-13 v t x y p q = rw (p, q)
 
-  pub removes-12 : (v a : ℕ) (t : Target) (x y z w : Bool) → c ≡ TlbiNhVa v a t → x ≡ stageAt row rows.stage1 v t → y ≡ hasAsid row a
-      → z ≡ rows.isGlobal row → w ≡ spared row (t .leaf) → (x && (y || z) && not w) ≡ removes c row
+  pub removes-28 : (v : ℕ) (x y : Bool) → x ≡ stageOf row rows.stage1 v → y ≡ stageOf row rows.stage2 v
+      → (x || y) ≡ removes (TlbiS12Vmall v) row
   unfolding removes
-  removes-12 v a t x y z w e p q r s = rw (e, p, q, r, s)
+  removes-28 v x y p q = rw (p, q)
 
-  pub removes-13 : (v : ℕ) (t : Target) (x y : Bool) → c ≡ TlbiNhVaa v t → x ≡ stageAt row rows.stage1 v t → y ≡ spared row (t .leaf)
-      → (x && not y) ≡ removes c row
+  pub removes-2A : (v : ℕ) (t : Target) (x y : Bool) → x ≡ stageAt row rows.stage2 v t → y ≡ spared row (t .leaf)
+      → (x && not y) ≡ removes (TlbiS2Ipa v t) row
   unfolding removes
-  removes-13 v t x y e p q = rw (e, p, q)
-
-  pub removes-28 : (v : ℕ) (x y : Bool) → c ≡ TlbiS12Vmall v → x ≡ stageOf row rows.stage1 v → y ≡ stageOf row rows.stage2 v
-      → (x || y) ≡ removes c row
-  unfolding removes
-  removes-28 v x y e p q = rw (e, p, q)
-
-  pub removes-2A : (v : ℕ) (t : Target) (x y : Bool) → c ≡ TlbiS2Ipa v t → x ≡ stageAt row rows.stage2 v t → y ≡ spared row (t .leaf)
-      → (x && not y) ≡ removes c row
-  unfolding removes
-  removes-2A v t x y e p q = rw (e, p, q)
-
-  pub removes-30 : (x : Bool) → c ≡ TlbiNsnhAll → x ≡ isStage row → x ≡ removes c row
-  unfolding removes
-  removes-30 x e p = rw (e, p)
-
-  pub removes-46 : (cs : ℕ) → c ≡ Sync cs → false ≡ removes c row
-  unfolding removes
-  removes-46 cs e = rw e
+  removes-2A v t x y p q = rw (p, q)
 
 module _ (f : Features) (c : Command) where
   pub idle-10 : (v : ℕ) (x : Bool) → c ≡ TlbiNhAll v → x ≡ narrow (f .vmid16) v → not x ≡ idle f c

@@ -7,7 +7,8 @@ ghost use mathlib.Core.Path.{_≡_};
 ghost use Prim.Native.Nat.{_/_, _^_, _<_};
 ghost use lib.Dec.{eqb};
 ghost use Rattle.rows.specs.Rows.{isGlobal};
-ghost use Rattle.scopes.specs.Scopes.{spared, meets, steBlock, openBits, steOf, cdOf, cdAt, stageOf, addressOf, stageAt, hasAsid, isStage, narrow, removes, idle, inScope};
+ghost use Rattle.commands.specs.declared.Command.the-variants.{CfgiSte, CfgiSteRange, CfgiCd, CfgiCdAll, TlbiNhAll, TlbiNhAsid, TlbiNhVa, TlbiNhVaa, TlbiS12Vmall, TlbiS2Ipa, TlbiNsnhAll};
+ghost use Rattle.scopes.specs.Scopes.{spared, meets, steBlock, openBits, steOf, cdOf, cdAt, stageOf, addressOf, stageAt, hasAsid, narrow, removes, idle, inScope};
 
 // The 2^span streams that are equal to one of them above their lowest span bits.
 pub struct Block {
@@ -118,6 +119,81 @@ fn open_bits(range: u64) -> u64
     words::part(range, 4, 0) + 1
 }
 
+// The table's last column, a function for each code.
+fn removes_03(row: Row, stream: u64, leaf: bool) -> bool
+    ensures { λ r. ⌜ r ≡ removes (CfgiSte stream leaf) row ⌝ }
+{
+    let block = Block { stream, span: 0 };
+    (ste_of(row, block) & !spared(row, leaf)) | cd_of(row, block)
+}
+
+fn removes_04(row: Row, stream: u64, range: u64) -> bool
+    ensures { λ r. ⌜ r ≡ removes (CfgiSteRange stream range) row ⌝ }
+{
+    let block = Block {
+        stream,
+        span: open_bits(range),
+    };
+    ste_of(row, block) | cd_of(row, block)
+}
+
+fn removes_05(row: Row, substream: u64, stream: u64, leaf: bool) -> bool
+    ensures { λ r. ⌜ r ≡ removes (CfgiCd substream stream leaf) row ⌝ }
+{
+    cd_at(row, stream, substream) & !spared(row, leaf)
+}
+
+fn removes_06(row: Row, stream: u64) -> bool
+    ensures { λ r. ⌜ r ≡ removes (CfgiCdAll stream) row ⌝ }
+{
+    cd_of(row, Block { stream, span: 0 })
+}
+
+fn removes_10(row: Row, vmid: u64) -> bool
+    ensures { λ r. ⌜ r ≡ removes (TlbiNhAll vmid) row ⌝ }
+{
+    stage_of(row, 2, vmid)
+}
+
+fn removes_11(row: Row, vmid: u64, asid: u64) -> bool
+    ensures { λ r. ⌜ r ≡ removes (TlbiNhAsid vmid asid) row ⌝ }
+{
+    stage_of(row, 2, vmid) & has_asid(row, asid) & !is_global(row)
+}
+
+fn removes_12(row: Row, vmid: u64, asid: u64, target: Target) -> bool
+    ensures { λ r. ⌜ r ≡ removes (TlbiNhVa vmid asid target) row ⌝ }
+{
+    stage_at(row, 2, vmid, target)
+        & (has_asid(row, asid) | is_global(row))
+        & !spared(row, target.leaf)
+}
+
+fn removes_13(row: Row, vmid: u64, target: Target) -> bool
+    ensures { λ r. ⌜ r ≡ removes (TlbiNhVaa vmid target) row ⌝ }
+{
+    stage_at(row, 2, vmid, target) & !spared(row, target.leaf)
+}
+
+fn removes_28(row: Row, vmid: u64) -> bool
+    ensures { λ r. ⌜ r ≡ removes (TlbiS12Vmall vmid) row ⌝ }
+{
+    stage_of(row, 2, vmid) | stage_of(row, 3, vmid)
+}
+
+fn removes_2a(row: Row, vmid: u64, target: Target) -> bool
+    ensures { λ r. ⌜ r ≡ removes (TlbiS2Ipa vmid target) row ⌝ }
+{
+    stage_at(row, 3, vmid, target) & !spared(row, target.leaf)
+}
+
+fn removes_30(row: Row) -> bool
+    ensures { λ r. ⌜ r ≡ removes TlbiNsnhAll row ⌝ }
+{
+    let p = rows::parts_of(row);
+    (p.kind == 2) | (p.kind == 3)
+}
+
 // Whether a row is one of those that the table names for a command.
 fn removes(c: Command, row: Row) -> bool
     ensures { λ r. ⌜ r ≡ removes c row ⌝ }
@@ -125,47 +201,19 @@ fn removes(c: Command, row: Row) -> bool
     match c {
         Command::PrefetchConfig => false,
         Command::PrefetchAddr => false,
-        Command::CfgiSte(stream, leaf) => {
-            let block = Block { stream, span: 0 };
-            (ste_of(row, block) & !spared(row, leaf)) | cd_of(row, block)
-        }
-        Command::CfgiSteRange(stream, range) => {
-            let block = Block {
-                stream,
-                span: open_bits(range),
-            };
-            ste_of(row, block) | cd_of(row, block)
-        }
-        Command::CfgiCd(substream, stream, leaf) => {
-            cd_at(row, stream, substream) & !spared(row, leaf)
-        }
-        Command::CfgiCdAll(stream) => cd_of(row, Block { stream, span: 0 }),
-        Command::TlbiNhAll(vmid) => stage_of(row, 2, vmid),
-        Command::TlbiNhAsid(vmid, asid) => stage_of(row, 2, vmid)
-            & has_asid(row, asid)
-            & !is_global(row),
-        Command::TlbiNhVa(vmid, asid, target) => {
-            stage_at(row, 2, vmid, target)
-                & (has_asid(row, asid) | is_global(row))
-                & !spared(row, target.leaf)
-        }
-        Command::TlbiNhVaa(vmid, target) => {
-            stage_at(row, 2, vmid, target) & !spared(row, target.leaf)
-        }
-        Command::TlbiS12Vmall(vmid) => stage_of(row, 2, vmid) | stage_of(row, 3, vmid),
-        Command::TlbiS2Ipa(vmid, target) => {
-            stage_at(row, 3, vmid, target) & !spared(row, target.leaf)
-        }
-        Command::TlbiNsnhAll => is_stage(row),
+        Command::CfgiSte(stream, leaf) => removes_03(row, stream, leaf),
+        Command::CfgiSteRange(stream, range) => removes_04(row, stream, range),
+        Command::CfgiCd(substream, stream, leaf) => removes_05(row, substream, stream, leaf),
+        Command::CfgiCdAll(stream) => removes_06(row, stream),
+        Command::TlbiNhAll(vmid) => removes_10(row, vmid),
+        Command::TlbiNhAsid(vmid, asid) => removes_11(row, vmid, asid),
+        Command::TlbiNhVa(vmid, asid, target) => removes_12(row, vmid, asid, target),
+        Command::TlbiNhVaa(vmid, target) => removes_13(row, vmid, target),
+        Command::TlbiS12Vmall(vmid) => removes_28(row, vmid),
+        Command::TlbiS2Ipa(vmid, target) => removes_2a(row, vmid, target),
+        Command::TlbiNsnhAll => removes_30(row),
         Command::Sync(_) => false,
     }
-}
-
-fn is_stage(row: Row) -> bool
-    ensures { λ r. ⌜ r ≡ isStage row ⌝ }
-{
-    let p = rows::parts_of(row);
-    (p.kind == 2) | (p.kind == 3)
 }
 
 fn narrow(wide: bool, id: u64) -> bool

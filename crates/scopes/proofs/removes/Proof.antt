@@ -1,11 +1,12 @@
--- `scopes::removes` meets its contract: at each command the tests are those of its row of the table.
+-- `scopes::removes` meets its contract: at each command the function of its code answers.
 -- Assumes nothing.
-use Rattle.scopes.proofs.Cases.{removes-01, removes-02, removes-03, removes-04, removes-05, removes-06, removes-10, removes-11, removes-12, removes-13, removes-28, removes-2A, removes-30, removes-46}
+use Rattle.scopes.specs.Scopes.{removes}
 use borrow.Author.Needs.{needs}
 use Rattle.scopes.proofs.removes.Statement.{statement}
 use Rattle.scopes.proofs.removes.Tie as tie
 
 pub removes-spec : {M : Type 1} → statement M
+unfolding removes
 removes-spec =
     tie.close
     (tie.spec
@@ -13,14 +14,11 @@ removes-spec =
     (λ c. search needs)
     (λ c. search needs)
     (λ c κs. search needs)
-    (λ c κs. search needs)
+    (λ c. search needs)
     (λ c κs. search needs)
     (λ c. search needs)
     (λ c κs. search needs)
-    (λ c κs. search needs)
-    (λ c κs. search needs)
     (λ c. search needs)
-    (λ c κs. search needs)
     (λ c κs. search needs)
     (λ c. search needs)
     (λ c κs. search needs)
@@ -28,36 +26,26 @@ removes-spec =
     (λ c κs. search needs)
     (λ c. search needs)
     (λ c κs. search needs)
-    (λ c κs. search needs)
-    (λ c κs. search needs)
     (λ c. search needs)
     (λ c κs. search needs)
-    (λ c κs. search needs)
-    (λ c κs. search needs)
-    (λ c κs. search needs)
     (λ c. search needs)
-    (λ c κs. search needs)
-    (λ c κs. search needs)
-    (λ c. search needs)
-    (λ c κs. search needs)
-    (λ c κs. search needs)
-    (λ c. search needs)
-    (λ c κs. search needs)
     (λ c κs. search needs)
     (λ c. search needs)
     (λ c κs. search needs)
     (λ c. search needs)
-    (λ c. search removes-01)
-    (λ c. search removes-02)
-    (λ c. search removes-03)
-    (λ c. search removes-04)
-    (λ c. search removes-05)
-    (λ c. search removes-06)
-    (λ c. search removes-10)
-    (λ c. search removes-11)
-    (λ c. search removes-12)
-    (λ c. search removes-13)
-    (λ c. search removes-28)
-    (λ c. search removes-2A)
-    (λ c. search removes-30)
-    (λ c. search removes-46))
+    (λ c κs. search needs)
+    (λ c. search needs)
+    (λ c. cc)
+    (λ c. cc)
+    (λ c. cc)
+    (λ c. cc)
+    (λ c. cc)
+    (λ c. cc)
+    (λ c. cc)
+    (λ c. cc)
+    (λ c. cc)
+    (λ c. cc)
+    (λ c. cc)
+    (λ c. cc)
+    (λ c. cc)
+    (λ c. cc))
