@@ -3,9 +3,11 @@
 DIR holds a folder for each crate and in it one for each edit, with the prover's words in .log. An edit that no longer
 parses, names what is not there, or leaves a proof file that does not fit the code would be refused too, and shows nothing.
 
-An edit may hold several, of functions that do not call one another, so that one check refuses them all. It then has a line
-for each, `refuses: module::function` or, where a law fails and not a function, `refuses: File.law`; each of these has to be
-refused for a failed fact of its own.
+An edit may hold several, so that one check refuses them all. It then has a line for each, and each has to be refused for a
+failed fact of its own:
+  refuses: module::function        a function, and no function that it calls is among those refused
+  refuses: module::function.fact   a fact that its proof file states by name: the others fail other facts
+  refuses: File.law                a law, where one fails and not a function
 """
 import os
 import re
@@ -57,27 +59,36 @@ def reason(log):
     return None if LEFT in log else 'the log shows no fact that fails'
 
 
+def verdict_on(log, crate, function):
+    """What the prover says of a function, from the word after its name on, or None."""
+    found = re.search(r'^fn %s::%s: (.*)$' % (re.escape(crate), re.escape(function)), log, re.M)
+    return found and found.group(1)
+
+
+def own_errors(log, file, name=''):
+    """The errors in a file of proofs, of one of its names where one is given."""
+    return [message for message in errors(log) if '/proofs/%s.antt:' % file in message[0] and (not name or 'error: `%s`' % name in message[0])]
+
+
 def own_reason(log, crate, name):
-    """Why a log does not show a failed fact of one function, or of one law, of the crate; None where it does."""
-    if '::' in name or '.' not in name:
-        verdict = re.search(r'^fn %s::%s: (.*)$' % (re.escape(crate), re.escape(name)), log, re.M)
-        if not verdict:
-            return 'the log has no verdict on it'
-        if 'it calls' in verdict.group(1) or not re.match('not proved|no proof', verdict.group(1)):
-            return 'it is %s' % verdict.group(1)[:200]
-        own = [message for message in errors(log) if '/proofs/%s/Proof.antt:' % name.replace('::', '/') in message[0]]
-        if not own:
-            return None if re.search('does not close|' + LEFT, verdict.group(1)) else 'no fact of its own fails'
-    else:
-        file, law = name.split('.', 1)
-        own = [message for message in errors(log) if '/proofs/%s.antt:' % file in message[0] and 'error: `%s`' % law in message[0]]
-        if not own:
-            return 'no fact of its own fails'
-    return next((why for why in map(another, own) if why), None)
+    """Why a log does not show a failed fact of one function, of one of its named facts, or of one law; None where it does."""
+    where, _, fact = name.partition('.')
+    if where[0].isupper():
+        own = own_errors(log, where, fact)
+        return next(filter(None, map(another, own)), None) if own else 'no fact of its own fails'
+    verdict = verdict_on(log, crate, where)
+    if not verdict:
+        return 'the log has no verdict on it'
+    if not re.match('not proved|no proof', verdict) or (not fact and 'it calls' in verdict):
+        return 'it is %s' % verdict[:200]
+    own = own_errors(log, where.replace('::', '/') + '/Proof', fact)
+    if not own:
+        return None if not fact and re.search('does not close|' + LEFT, verdict) else 'no fact of its own fails'
+    return next(filter(None, map(another, own)), None)
 
 
 def named(edit):
-    """The functions and laws that an edit says are refused."""
+    """The functions, facts and laws that an edit says are refused."""
     with open(edit, encoding='utf-8') as opened:
         return re.findall(r'^refuses: (\S+)$', opened.read(), re.M)
 

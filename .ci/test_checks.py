@@ -75,6 +75,13 @@ def groups():
     shape = 'c/proofs/g/Proof.antt:1:2: error: `x` has no `Need-add-i` that can be named from here\nfn c::g: not proved\n'
     expect('a member whose proof does not fit', refusals.own_reason(fact % 'm/f' + shape, 'c', 'g') is not None)
     expect('a member that the search leaves', refusals.own_reason('fn c::g: no proof: `search` does not close `returns`\n', 'c', 'g') is None)
+    both = fact % 'm/f' + 'c/proofs/m/f/Proof.antt:3:4: error: `returns-2`: expected type `a`, but this has type `b`\nfn c::m::f: not proved\n'
+    expect('two facts of one function', [refusals.own_reason(both, 'c', name) for name in ('m::f.returns', 'm::f.returns-2')] == [None, None])
+    expect('a fact that did not fail', refusals.own_reason(both, 'c', 'm::f.returns-3') is not None)
+    calls = fact % 'm/f' + fact % 'g' + 'fn c::m::f: not proved\nfn c::g: not proved; it calls `c::m::f`, which is not proved\n'
+    expect('a fact of a caller', refusals.own_reason(calls, 'c', 'g.returns') is None)
+    expect('a caller that fails no fact', refusals.own_reason(one, 'c', 'g.returns') is not None)
+    expect('a fact where the proof does not fit', refusals.own_reason(shape.replace('`x` has', '`returns`: `x` has'), 'c', 'g.returns') is not None)
     law = 'c/proofs/Laws.antt:1:2: error: `keeps`: expected type `a`, but this has type `b`\n'
     expect('a law', refusals.own_reason(law, 'c', 'Laws.keeps') is None)
     expect('another law', refusals.own_reason(law, 'c', 'Laws.keep') is not None)

@@ -1,13 +1,19 @@
 -- Codes, as the arms of a match know them.
 -- Assumes nothing.
-use mathlib.Core.Path.{_≡_, refl, ap}
+use mathlib.Core.Path.{_≡_, refl, ap, _∙_}
+use mathlib.Core.Bool.{Bool, true, false}
 use mathlib.Core.List.{List, [], _∷_, map}
-use Prim.Native.Nat.{ℕ, suc}
-use lib.ListN.{length}
+use Prim.Native.Nat.{ℕ, suc, _-_}
+use lib.Dec.{eqb}
+use lib.ListN.{length, take}
 use borrow.Author.Tests.{ne-eqb}
+use Rattle.words.specs.Choice.{pick}
+use Rattle.words.specs.Ranges.{get}
 use Rattle.words.specs.Search.{placeOf}
-use Rattle.commands.specs.declared.Command.{Command}
-use Rattle.commands.specs.Decoding.{beside}
+use Rattle.commands.specs.declared.Features.{Features}
+use Rattle.commands.specs.declared.Command.the-variants.{Sync}
+use Rattle.commands.specs.Formats.{csBits, Format, formats, howMany, codeIn, needsIn, commandIn}
+use Rattle.commands.specs.Decoding.{at, featurePresent, commandOf}
 
 -- the last arm knows that it is none of the keys, one after the other
 abbrev pub NoneOf : Type 0 → List ℕ → ℕ → Type 0
@@ -18,16 +24,34 @@ before : (N : Type 0) (ks : List ℕ) (x : ℕ) → NoneOf N ks x → N
 before N [] x n = n
 before N (k ∷ ks) x n = before (N × (x ≡ k → ⊥)) ks x n .0
 
--- so it has no place among them, and nothing stands beside it
+-- so it has no place among them, and no line of the table
 pub no-place : (N : Type 0) (ks : List ℕ) (x : ℕ) → NoneOf N ks x → length ks ≡ placeOf ks x
 no-place N [] x n = refl
 no-place N (k ∷ ks) x n =
     let M = N × (x ≡ k → ⊥) in
     rw (ne-eqb x k (before M ks x n .1)) (ap suc (no-place M ks x n))
 
-pub none-beside : (N : Type 0) (xs : List (ℕ × Command)) (x : ℕ) (last : Command)
-    → NoneOf N (map (λ (p : ℕ × Command). p .0) xs) x → last ≡ beside x xs last
-none-beside N [] x last n = refl
-none-beside N (p ∷ ps) x last n =
-    let M = N × (x ≡ p .0 → ⊥) in
-    rw (ne-eqb x (p .0) (before M (map (λ (q : ℕ × Command). q .0) ps) x n .1)) (none-beside M ps x last n)
+pub no-line : {A : Type 0} → (column : Format → A) (last : A) (N : Type 0) (ls : List Format) (x : ℕ) → NoneOf N (map codeIn ls) x → last ≡ at column last ls x
+no-line column last N [] x n = refl
+no-line column last N (l ∷ ls) x n =
+    let M = N × (x ≡ codeIn l → ⊥) in
+    rw (ne-eqb x (codeIn l) (before M (map codeIn ls) x n .1)) (no-line column last M ls x n)
+
+-- The last arm of a match stands for the last line of the table: its code is the one that is left, or none.
+abbrev pub others : List Format
+others = take (howMany - 1) formats
+
+either-way : {A : Type 0} → (b : Bool) (x : A) → x ≡ pick b x x
+either-way true x = refl
+either-way false x = refl
+
+pub last-present : (f : Features) (x : ℕ) → NoneOf Unit (map codeIn others) x → true ≡ featurePresent f x
+unfolding featurePresent
+last-present f x n =
+    either-way (eqb x 0x46) true ∙ no-line (λ (l : Format). needsIn l f) (pick (eqb x 0x46) true true) Unit others x n
+
+pub last-command : (c x : ℕ) → NoneOf Unit (map codeIn others) x → Sync (get csBits c) ≡ commandOf x c
+unfolding commandOf
+last-command c x n =
+    let is = Sync (get csBits c) in
+    either-way (eqb x 0x46) is ∙ no-line (λ (l : Format). commandIn l c) (pick (eqb x 0x46) is is) Unit others x n

@@ -8,9 +8,9 @@ use Rattle.words.specs.Ranges.{get}
 use Rattle.commands.specs.declared.Target.{Target}
 use Rattle.commands.specs.declared.Command.{Command}
 use Rattle.commands.specs.declared.Command.the-variants.{PrefetchConfig, PrefetchAddr, CfgiSte, CfgiSteRange, CfgiCd, CfgiCdAll, TlbiNhAll, TlbiNhAsid, TlbiNhVa, TlbiNhVaa, TlbiS12Vmall, TlbiS2Ipa, TlbiNsnhAll, Sync}
-use Rattle.commands.specs.Formats.{streamBits, substreamBits, vmidBits, asidBits, csBits, leafBits, rangeBits, pageBits, ipaPageBits}
-use Rattle.commands.specs.Decoding.{isSetIn, targetOf, commandsIn, commandOf}
-use Rattle.commands.proofs.Codes.{NoneOf, none-beside}
+use Rattle.commands.specs.Formats.{streamBits, substreamBits, vmidBits, asidBits, csBits, leafBits, rangeBits, pageBits, ipaPageBits, isSetIn, targetOf, codeIn}
+use Rattle.commands.specs.Decoding.{commandOf}
+use Rattle.commands.proofs.Codes.{NoneOf, others, last-command}
 
 module _ (code c : ℕ) where
   pub is-01 : code ≡ 0x01 → PrefetchConfig ≡ commandOf code c
@@ -67,6 +67,5 @@ module _ (code c : ℕ) where
   unfolding commandOf
   is-30 e = rw e
 
-  pub is-46 : (s : ℕ) → NoneOf Unit (map (λ (x : ℕ × Command). x .0) (commandsIn c)) code → s ≡ get csBits c → Sync s ≡ commandOf code c
-  unfolding commandOf
-  is-46 s n p = ap Sync p ∙ none-beside Unit (commandsIn c) code (Sync (get csBits c)) n
+  pub is-46 : (s : ℕ) → NoneOf Unit (map codeIn others) code → s ≡ get csBits c → Sync s ≡ commandOf code c
+  is-46 s n p = ap Sync p ∙ last-command c code n

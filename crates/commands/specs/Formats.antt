@@ -1,14 +1,19 @@
--- Document 01, Commands and their scopes: the codes and the bits that each names. Bits are numbered 127:0 over both words.
+-- Document 01, Commands and their scopes: the codes, what each needs and names, and the command that it is. Bits are numbered
+-- 127:0 over both words.
 -- Assumes nothing.
 use Prim.Native.Nat.{ℕ, _+_}
 use mathlib.Core.Path.{_≡_}
 use mathlib.Core.Bool.{Bool, true, not}
 use mathlib.Core.List.{List, [], _∷_, _++_, map}
+use lib.Dec.{eqb}
 use lib.ListN.{length, getD}
 use Rattle.words.specs.Choice.{pick}
 use Rattle.words.specs.Parts.{isSet}
-use Rattle.words.specs.Ranges.{Range, bits, named, all}
+use Rattle.words.specs.Ranges.{Range, bits, get, named, all}
 use Rattle.commands.specs.declared.Features.{Features}
+use Rattle.commands.specs.declared.Target.{Target}
+use Rattle.commands.specs.declared.Command.{Command}
+use Rattle.commands.specs.declared.Command.the-variants.{PrefetchConfig, PrefetchAddr, CfgiSte, CfgiSteRange, CfgiCd, CfgiCdAll, TlbiNhAll, TlbiNhAsid, TlbiNhVa, TlbiNhVaa, TlbiS12Vmall, TlbiS2Ipa, TlbiNsnhAll, Sync}
 
 abbrev pub codeBits : Range
 codeBits = bits 7 0
@@ -45,39 +50,64 @@ ipaPageBits = bits 115 76
 abbrev pub vmidWith : Features → List Range
 vmidWith f = pick (f .s2p) (vmidBits ∷ []) []
 
--- a code, and the bits besides its own that it names under the features, those not looked at among them
+-- a field of one bit as a yes or no
+abbrev pub isSetIn : Range → ℕ → Bool
+isSetIn r c = eqb (get r c) 1
+
+-- what a command by address aims at, given the page
+abbrev pub targetOf : ℕ → ℕ → Target
+targetOf page c = record { leaf = isSetIn leafBits c; page = page }
+
+-- what a code needs
+abbrev pub always : Features → Bool
+always f = true
+
+abbrev pub s1p : Features → Bool
+s1p f = f .s1p
+
+abbrev pub s2p : Features → Bool
+s2p f = f .s2p
+
+-- A code; whether the features that it needs are there; the bits besides its own that it names under the features, those not
+-- looked at among them; and the command, with its fields as they stand.
 pub data Format : Type 0 where
-  code : ℕ → (Features → List Range) → Format
+  code : ℕ → (Features → Bool) → (Features → List Range) → (ℕ → Command) → Format
 
 -- The table, a line for each code. Every bit that its line does not name is Reserved.
 abbrev pub formats : List Format
 formats =
     -- 01, 02: 9:8 and 127:11 are not looked at
-    code 0x01 (λ f. bits 9 8 ∷ bits 127 11 ∷ [])
-    ∷ code 0x02 (λ f. bits 9 8 ∷ bits 127 11 ∷ [])
-    ∷ code 0x03 (λ f. streamBits ∷ leafBits ∷ [])
-    ∷ code 0x04 (λ f. streamBits ∷ rangeBits ∷ [])
-    ∷ code 0x05 (λ f. substreamBits ∷ streamBits ∷ leafBits ∷ [])
-    ∷ code 0x06 (λ f. streamBits ∷ [])
-    ∷ code 0x10 (λ f. vmidWith f)
-    ∷ code 0x11 (λ f. vmidWith f ++ asidBits ∷ [])
-    ∷ code 0x12 (λ f. vmidWith f ++ asidBits ∷ leafBits ∷ pageBits ∷ [])
-    ∷ code 0x13 (λ f. vmidWith f ++ leafBits ∷ pageBits ∷ [])
-    ∷ code 0x28 (λ f. vmidBits ∷ [])
-    ∷ code 0x2A (λ f. vmidBits ∷ leafBits ∷ ipaPageBits ∷ [])
-    ∷ code 0x30 (λ f. [])
+    code 0x01 always (λ f. bits 9 8 ∷ bits 127 11 ∷ []) (λ c. PrefetchConfig)
+    ∷ code 0x02 always (λ f. bits 9 8 ∷ bits 127 11 ∷ []) (λ c. PrefetchAddr)
+    ∷ code 0x03 always (λ f. streamBits ∷ leafBits ∷ []) (λ c. CfgiSte (get streamBits c) (isSetIn leafBits c))
+    ∷ code 0x04 always (λ f. streamBits ∷ rangeBits ∷ []) (λ c. CfgiSteRange (get streamBits c) (get rangeBits c))
+    ∷ code 0x05 s1p (λ f. substreamBits ∷ streamBits ∷ leafBits ∷ []) (λ c. CfgiCd (get substreamBits c) (get streamBits c) (isSetIn leafBits c))
+    ∷ code 0x06 s1p (λ f. streamBits ∷ []) (λ c. CfgiCdAll (get streamBits c))
+    ∷ code 0x10 s1p (λ f. vmidWith f) (λ c. TlbiNhAll (get vmidBits c))
+    ∷ code 0x11 s1p (λ f. vmidWith f ++ asidBits ∷ []) (λ c. TlbiNhAsid (get vmidBits c) (get asidBits c))
+    ∷ code 0x12 s1p (λ f. vmidWith f ++ asidBits ∷ leafBits ∷ pageBits ∷ []) (λ c. TlbiNhVa (get vmidBits c) (get asidBits c) (targetOf (get pageBits c) c))
+    ∷ code 0x13 s1p (λ f. vmidWith f ++ leafBits ∷ pageBits ∷ []) (λ c. TlbiNhVaa (get vmidBits c) (targetOf (get pageBits c) c))
+    ∷ code 0x28 s2p (λ f. vmidBits ∷ []) (λ c. TlbiS12Vmall (get vmidBits c))
+    ∷ code 0x2A s2p (λ f. vmidBits ∷ leafBits ∷ ipaPageBits ∷ []) (λ c. TlbiS2Ipa (get vmidBits c) (targetOf (get ipaPageBits c) c))
+    ∷ code 0x30 always (λ f. []) (λ c. TlbiNsnhAll)
     -- 46: 27:22, 63:32 and 127:64 are not looked at
-    ∷ code 0x46 (λ f. csBits ∷ bits 27 22 ∷ bits 63 32 ∷ bits 127 64 ∷ [])
+    ∷ code 0x46 always (λ f. csBits ∷ bits 27 22 ∷ bits 63 32 ∷ bits 127 64 ∷ []) (λ c. Sync (get csBits c))
     ∷ []
 
 abbrev pub howMany : ℕ
 howMany = length formats
 
-abbrev codeIn : Format → ℕ
-codeIn (code n names) = n
+abbrev pub codeIn : Format → ℕ
+codeIn (code n needs names is) = n
 
-abbrev namesIn : Format → Features → List Range
-namesIn (code n names) f = names f
+abbrev pub needsIn : Format → Features → Bool
+needsIn (code n needs names is) f = needs f
+
+abbrev pub namesIn : Format → Features → List Range
+namesIn (code n needs names is) f = names f
+
+abbrev pub commandIn : Format → ℕ → Command
+commandIn (code n needs names is) c = is c
 
 -- the codes, in the paper's order
 abbrev pub codes : List ℕ

@@ -12,8 +12,8 @@ ghost use lib.ListN.{length};
 ghost use Rattle.words.specs.Parts.{joined};
 ghost use Rattle.words.specs.Search.{placeOf};
 ghost use Rattle.words.specs.Ranges.{get};
-ghost use Rattle.commands.specs.Formats.{codes, streamBits, vmidBits, asidBits, leafBits, pageBits};
-ghost use Rattle.commands.specs.Decoding.{featurePresent, parameterGood, isLegal, isSetIn, targetOf, commandOf, decode, decodeAt, isCounted, syncsOf};
+ghost use Rattle.commands.specs.Formats.{codes, streamBits, vmidBits, asidBits, leafBits, pageBits, isSetIn, targetOf};
+ghost use Rattle.commands.specs.Decoding.{featurePresent, parameterGood, isLegal, commandOf, decode, decodeAt, isCounted, syncsOf};
 
 // The place of a code among the codes, or how many there are.
 fn place(code: u64) -> usize
@@ -41,13 +41,22 @@ fn place(code: u64) -> usize
 fn feature_present(f: Features, code: u64) -> bool
     ensures { λ r. ⌜ r ≡ featurePresent f code ⌝ }
 {
-    if (code == 0x05) | (code == 0x06) | ((0x10 <= code) & (code <= 0x13)) {
-        return f.s1p;
+    match code {
+        0x01 => true,
+        0x02 => true,
+        0x03 => true,
+        0x04 => true,
+        0x05 => f.s1p,
+        0x06 => f.s1p,
+        0x10 => f.s1p,
+        0x11 => f.s1p,
+        0x12 => f.s1p,
+        0x13 => f.s1p,
+        0x28 => f.s2p,
+        0x2A => f.s2p,
+        0x30 => true,
+        _ => true,
     }
-    if (code == 0x28) | (code == 0x2A) {
-        return f.s2p;
-    }
-    true
 }
 
 fn parameter_good(code: u64, lo: u64, hi: u64) -> bool

@@ -41,6 +41,10 @@ const NAMED: [[u64; 2]; CODES] = [
     [0xffff_ffff_0fc0_30ff, 0xffff_ffff_ffff_ffff],
 ];
 
+// The places of 10 and 13, which name a VMID only with S2P.
+const NH_FIRST: usize = 6;
+const NH_LAST: usize = 9;
+
 // The number in the bits h down to l of a command, which lie in one of its words.
 pub fn field(lo: u64, hi: u64, h: u64, l: u64) -> u64
     requires { ⌜ (l ≤ h) × (h < 128) × (h < l + 63) × (h / 64 ≡ l / 64) ⌝ }
@@ -58,7 +62,7 @@ fn masks(f: Features, k: usize) -> [u64; 2]
     ensures { λ r. ⌜ MasksOf (namedAt f k) r ⌝ }
 {
     let named = NAMED[k];
-    if (6 <= k) & (k <= 9) & !f.s2p {
+    if (NH_FIRST <= k) & (k <= NH_LAST) & !f.s2p {
         return [named[0] & 0xffff_0000_ffff_ffff, named[1]];
     }
     named
