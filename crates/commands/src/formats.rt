@@ -43,6 +43,7 @@ const NAMED: [[u64; 2]; CODES] = [
 
 // The places of 10 and 13, which name a VMID only with S2P.
 const NH_FIRST: usize = 6;
+
 const NH_LAST: usize = 9;
 
 // The number in the bits h down to l of a command, which lie in one of its words.

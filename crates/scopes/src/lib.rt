@@ -3,6 +3,7 @@ use commands::Command;
 use commands::Features;
 use commands::Target;
 use rows::Row;
+use rows::kinds;
 ghost use mathlib.Core.Path.{_≡_};
 ghost use Prim.Native.Nat.{_/_, _^_, _<_};
 ghost use lib.Dec.{eqb};
@@ -59,7 +60,7 @@ fn ste_of(row: Row, block: Block) -> bool
     requires { ⌜ block .span < 64 ⌝ }
     ensures { λ r. ⌜ r ≡ steOf row block ⌝ }
 {
-    (rows::parts_of(row).kind == 0) & meets(ste_block(row), block)
+    (rows::parts_of(row).kind == kinds::STE) & meets(ste_block(row), block)
 }
 
 fn cd_of(row: Row, block: Block) -> bool
@@ -71,14 +72,14 @@ fn cd_of(row: Row, block: Block) -> bool
         stream: p.stream,
         span: 0,
     };
-    (p.kind == 1) & meets(own, block)
+    (p.kind == kinds::CD) & meets(own, block)
 }
 
 fn cd_at(row: Row, stream: u64, substream: u64) -> bool
     ensures { λ r. ⌜ r ≡ cdAt row stream substream ⌝ }
 {
     let p = rows::parts_of(row);
-    (p.kind == 1) & (p.stream == stream) & (!p.last | (p.substream == substream))
+    (p.kind == kinds::CD) & (p.stream == stream) & (!p.last | (p.substream == substream))
 }
 
 fn stage_of(row: Row, kind: u64, vmid: u64) -> bool
@@ -152,19 +153,19 @@ fn removes_06(row: Row, stream: u64) -> bool
 fn removes_10(row: Row, vmid: u64) -> bool
     ensures { λ r. ⌜ r ≡ removes (TlbiNhAll vmid) row ⌝ }
 {
-    stage_of(row, 2, vmid)
+    stage_of(row, kinds::STAGE1, vmid)
 }
 
 fn removes_11(row: Row, vmid: u64, asid: u64) -> bool
     ensures { λ r. ⌜ r ≡ removes (TlbiNhAsid vmid asid) row ⌝ }
 {
-    stage_of(row, 2, vmid) & has_asid(row, asid) & !is_global(row)
+    stage_of(row, kinds::STAGE1, vmid) & has_asid(row, asid) & !is_global(row)
 }
 
 fn removes_12(row: Row, vmid: u64, asid: u64, target: Target) -> bool
     ensures { λ r. ⌜ r ≡ removes (TlbiNhVa vmid asid target) row ⌝ }
 {
-    stage_at(row, 2, vmid, target)
+    stage_at(row, kinds::STAGE1, vmid, target)
         & (has_asid(row, asid) | is_global(row))
         & !spared(row, target.leaf)
 }
@@ -172,26 +173,26 @@ fn removes_12(row: Row, vmid: u64, asid: u64, target: Target) -> bool
 fn removes_13(row: Row, vmid: u64, target: Target) -> bool
     ensures { λ r. ⌜ r ≡ removes (TlbiNhVaa vmid target) row ⌝ }
 {
-    stage_at(row, 2, vmid, target) & !spared(row, target.leaf)
+    stage_at(row, kinds::STAGE1, vmid, target) & !spared(row, target.leaf)
 }
 
 fn removes_28(row: Row, vmid: u64) -> bool
     ensures { λ r. ⌜ r ≡ removes (TlbiS12Vmall vmid) row ⌝ }
 {
-    stage_of(row, 2, vmid) | stage_of(row, 3, vmid)
+    stage_of(row, kinds::STAGE1, vmid) | stage_of(row, kinds::STAGE2, vmid)
 }
 
 fn removes_2a(row: Row, vmid: u64, target: Target) -> bool
     ensures { λ r. ⌜ r ≡ removes (TlbiS2Ipa vmid target) row ⌝ }
 {
-    stage_at(row, 3, vmid, target) & !spared(row, target.leaf)
+    stage_at(row, kinds::STAGE2, vmid, target) & !spared(row, target.leaf)
 }
 
 fn removes_30(row: Row) -> bool
     ensures { λ r. ⌜ r ≡ removes TlbiNsnhAll row ⌝ }
 {
     let p = rows::parts_of(row);
-    (p.kind == 2) | (p.kind == 3)
+    (p.kind == kinds::STAGE1) | (p.kind == kinds::STAGE2)
 }
 
 // Whether a row is one of those that the table names for a command.
