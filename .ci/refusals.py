@@ -87,15 +87,14 @@ def own_reason(log, crate, name):
     return next(filter(None, map(another, own)), None)
 
 
-def named(edit):
-    """The functions, facts and laws that an edit says are refused."""
-    with open(edit, encoding='utf-8') as opened:
-        return re.findall(r'^refuses: (\S+)$', opened.read(), re.M)
+def named(text):
+    """The functions, facts and laws that the text of an edit says are refused."""
+    return re.findall(r'^refuses: (\S+)$', text, re.M)
 
 
-def judged(crate, edit, log):
-    """What is wrong with an edit's refusal, a line each."""
-    names = named(edit)
+def judged(crate, text, log):
+    """What is wrong with the refusal of an edit of this text, a line each."""
+    names = named(text)
     if not names:
         why = reason(log)
         return [why] if why else []
@@ -114,9 +113,10 @@ def main(folder):
             count += 1
             with open(path, encoding='utf-8', errors='replace') as opened:
                 log = opened.read()
-            edit = os.path.join('crates', crate, 'must-fail', label + '.edit')
-            members += max(1, len(named(edit)))
-            for why in judged(crate, edit, log):
+            with open(os.path.join('crates', crate, 'must-fail', label + '.edit'), encoding='utf-8') as opened:
+                text = opened.read()
+            members += max(1, len(named(text)))
+            for why in judged(crate, text, log):
                 print('%s/%s: %s' % (crate, label, why))
                 wrong += 1
     if count == 0:
