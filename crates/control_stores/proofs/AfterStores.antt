@@ -87,7 +87,7 @@ module _ (w : ℕ) where
       let same : gerror w ≡ gerrorn w = eqb-true (gerror w) (gerrorn w) (not-false (eqb (gerror w) (gerrorn w)) e) in
       ap not
       (ne-eqb (gerror (raised w)) (gerrorn (raised w))
-      (λ q. omega (arith, q, raised-flips, raised-keeps gerrornBits tt, same, part-lt 47 47 w)))
+      (λ q. omega (arith, q, raised-flips, raised-keeps gerrornBits tt, same, part-lt gerrorBits w)))
 
   -- ringing
   pub rung-keeps : (v : ℕ) (r : Range) → T (apart wrBits r) → get r (rung w v) ≡ get r w
@@ -124,7 +124,7 @@ module _ (w : ℕ) where
 
   pub acknowledged-sets : gerrorn (acknowledged w) ≡ gerror w
   unfolding acknowledged
-  acknowledged-sets = reads-back gerrornBits (gerror w) w tt (part-lt 47 47 w)
+  acknowledged-sets = reads-back gerrornBits (gerror w) w tt (part-lt gerrorBits w)
 
   pub acknowledged-quiet : active (acknowledged w) ≡ false
   unfolding active

@@ -187,13 +187,13 @@ module _ (w : ℕ) where
   fields-fit =
       is-fit (fieldsOf w)
       (record {
-        rd = part-lt 19 0 w;
-        wr = part-lt 39 20 w;
-        err = part-lt 46 40 w;
-        gerror = part-lt 47 47 w;
-        gerrorn = part-lt 48 48 w;
-        cmdqen = part-lt 49 49 w;
-        log2size = part-lt 54 50 w;
+        rd = part-lt rdBits w;
+        wr = part-lt wrBits w;
+        err = part-lt errBits w;
+        gerror = part-lt gerrorBits w;
+        gerrorn = part-lt gerrornBits w;
+        cmdqen = part-lt cmdqenBits w;
+        log2size = part-lt log2sizeBits w;
       })
 
   pub agree-from : w < 2 ^ 55 → (decided (fieldsOf w) .answer ≡ wordAnswer w) × (packed (afterwards (fieldsOf w)) ≡ wordAfter w)

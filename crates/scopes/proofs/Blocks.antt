@@ -83,8 +83,8 @@ range-31 f s row fit used kind =
       fits = refl;
       removed = ⊎-elim
           (λ ste. or-left (steOf row every) (cdOf row every)
-          (and-true (eq-eqb (rows.kind row) rows.ste ste) (all-meet (steBlock row) every (part-lt 31 0 (row .w1)) fit refl)))
+          (and-true (eq-eqb (rows.kind row) rows.ste ste) (all-meet (steBlock row) every (part-lt rows.streamBits (row .w1)) fit refl)))
           (λ cd. or-right (steOf row every) (cdOf row every)
-          (and-true (eq-eqb (rows.kind row) rows.cd cd) (all-meet (one (rows.stream row)) every (part-lt 31 0 (row .w1)) fit refl)))
+          (and-true (eq-eqb (rows.kind row) rows.cd cd) (all-meet (one (rows.stream row)) every (part-lt rows.streamBits (row .w1)) fit refl)))
           kind;
     })

@@ -14,9 +14,9 @@ use Rattle.words.specs.Parts.{part, put}
 use Rattle.words.specs.Ranges.{Range, bits, get, set, width, Field, puts}
 use Rattle.words.proofs.Truth.{left, right, passed, T-left, T-right}
 
-pub part-lt : (h l w : ℕ) → part h l w < 2 ^ (h + 1 - l)
+pub part-lt : (r : Range) (w : ℕ) → get r w < 2 ^ width r
 unfolding part
-part-lt h l w = mod-lt (w / 2 ^ l) (pow-pos (h + 1 - l))
+part-lt (bits h l) w = mod-lt (w / 2 ^ l) (pow-pos (h + 1 - l))
 
 -- `put`, by the width d of the part and the bits l below it
 module _ (d l v w : ℕ) where

@@ -2,12 +2,13 @@
 -- Assumes nothing.
 use native.Mathlib.Omega.{arith}
 use Rattle.words.proofs.Parts.{part-lt}
+use Rattle.control.specs.Control.{log2sizeBits}
 use borrow.Author.Needs.{needs}
 use Rattle.control.proofs.word.log2size_of.Statement.{statement}
 use Rattle.control.proofs.word.log2size_of.Tie as tie
 
 returns : tie.Need-returns
-returns c = (c .part .ensures, omega (arith, c .part .ensures, part-lt 54 50 (c .before .args .w)))
+returns c = (c .part .ensures, omega (arith, c .part .ensures, part-lt log2sizeBits (c .before .args .w)))
 
 pub log2size-of-spec : {M : Type 1} → statement M
 log2size-of-spec = tie.close (tie.spec (λ c κs. search needs) returns)
