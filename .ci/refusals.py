@@ -98,6 +98,9 @@ def judged(crate, text, log):
     if not names:
         why = reason(log)
         return [why] if why else []
+    shared = [name for name in sorted(set(names)) if names.count(name) > 1 or any(other.startswith(name + '.') for other in names)]
+    if shared:
+        return ['%s: two edits have no fact each' % name for name in shared]
     return ['%s: %s' % (name, why) for name in names for why in [own_reason(log, crate, name)] if why]
 
 

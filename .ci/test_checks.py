@@ -82,6 +82,9 @@ def groups():
     expect('a fact of a caller', refusals.own_reason(calls, 'c', 'g.returns') is None)
     expect('a caller that fails no fact', refusals.own_reason(one, 'c', 'g.returns') is not None)
     expect('a fact where the proof does not fit', refusals.own_reason(shape.replace('`x` has', '`returns`: `x` has'), 'c', 'g.returns') is not None)
+    expect('a group', refusals.judged('c', 'refuses: m::f.returns\nrefuses: m::f.returns-2\n', both) == [])
+    expect('one fact for two', len(refusals.judged('c', 'refuses: m::f\nrefuses: m::f\n', both)) == 1)
+    expect('a function and a fact of it', len(refusals.judged('c', 'refuses: m::f\nrefuses: m::f.returns\n', both)) == 1)
     law = 'c/proofs/Laws.antt:1:2: error: `keeps`: expected type `a`, but this has type `b`\n'
     expect('a law', refusals.own_reason(law, 'c', 'Laws.keeps') is None)
     expect('another law', refusals.own_reason(law, 'c', 'Laws.keep') is not None)

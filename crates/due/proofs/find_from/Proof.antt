@@ -1,4 +1,4 @@
--- `steps::find_from` meets its contract: what the whole scan finds, the rest of it finds; an idle command has no row in scope.
+-- `due::find_from` meets its contract: what the whole scan finds, the rest of it finds; an idle command has no row in scope.
 -- Assumes nothing.
 use mathlib.Core.Path.{refl, sym, _∙_}
 use Prim.Native.Nat.{_-_}

@@ -1,4 +1,4 @@
--- `steps::scoped_at` meets its contract.
+-- `due::scoped_at` meets its contract.
 -- Assumes nothing.
 use Rattle.due.specs.Due.{scopedAt}
 use borrow.Author.Needs.{needs}

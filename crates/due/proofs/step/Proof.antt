@@ -1,4 +1,4 @@
--- `steps::step` meets its contract: the store is the one that is due.
+-- `due::step` meets its contract: the store is the one that is due.
 -- Assumes nothing.
 use Prim.Native.Nat.{_<_, _+_, _*_}
 use native.Mathlib.Omega.{arith}

@@ -1,4 +1,4 @@
--- `decodes::formats::known_codes` is safe and ends.
+-- `verdicts::formats::known_codes` is safe and ends.
 -- Assumes nothing.
 use Prim.Native.Nat.{_-_, _≤_}
 use borrow.Author.Needs.{needs}

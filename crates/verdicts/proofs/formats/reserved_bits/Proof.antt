@@ -1,4 +1,4 @@
--- `decodes::formats::reserved_bits` is safe and ends.
+-- `verdicts::formats::reserved_bits` is safe and ends.
 -- Assumes nothing.
 use Prim.Native.Nat.{_-_, _≤_}
 use borrow.Author.Needs.{needs}

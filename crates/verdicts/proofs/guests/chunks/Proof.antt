@@ -1,4 +1,4 @@
--- `decodes::guests::chunks` is safe and ends.
+-- `verdicts::guests::chunks` is safe and ends.
 -- Assumes nothing.
 use Prim.Native.Nat.{_-_, _≤_}
 use borrow.Author.Needs.{needs}

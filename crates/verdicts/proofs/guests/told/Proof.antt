@@ -1,4 +1,4 @@
--- `decodes::guests::told` is safe and ends.
+-- `verdicts::guests::told` is safe and ends.
 -- Assumes nothing.
 use Prim.Native.Nat.{_-_, _≤_}
 use borrow.Author.Needs.{needs}
