@@ -55,6 +55,10 @@ unfoldable pub decode : Features → ℕ → ℕ → Decoded
 decode f lo hi =
     pick (isLegal f (joined lo hi)) (Legal (commandOf (codeOf (joined lo hi)) (joined lo hi))) Illegal
 
+abbrev pub isIllegal : Decoded → Bool
+isIllegal (Legal command) = false
+isIllegal Illegal = true
+
 -- the command in a slot of the queue: 16 bytes, the low word first
 unfoldable pub decodeAt : Features → List ℕ → ℕ → Decoded
 decodeAt f queue slot = decode f (wordAt queue (16 * slot)) (wordAt queue (16 * slot + 8))

@@ -24,7 +24,7 @@ use Rattle.commands.specs.declared.Features.{Features}
 use Rattle.commands.specs.declared.Command.{Command}
 use Rattle.commands.specs.declared.Decoded.{Decoded}
 use Rattle.commands.specs.declared.Decoded.the-variants.{Legal, Illegal}
-use Rattle.commands.specs.Decoding.{decodeAt}
+use Rattle.commands.specs.Decoding.{decodeAt, isIllegal}
 use Rattle.scopes.specs.Scopes.{inScope}
 use Rattle.scopes.proofs.Laws.{empty-spared}
 use Rattle.rows.specs.declared.Row.{Row}
@@ -38,9 +38,9 @@ use Rattle.runs.specs.declared.End.{End}
 use Rattle.runs.specs.declared.End.the-variants.{Off, Held, Empty, Raised, Cut}
 use Rattle.runs.specs.Running.{Out, Next, rests, stores, rested, plus, last, next, runBy, dueIn, run, endOf}
 use Rattle.promises.specs.Places.{word0}
+use Rattle.promises.specs.Sums.{raise}
 use Rattle.promises.specs.Found.{advanced, commandAt, closing, Consumed, WasInScope, Found}
 use Rattle.promises.proofs.Cases.{Case, removes, consumes, raises, IsDue, is-due, open-stores}
-use Rattle.promises.proofs.Resume.{rest-unraised}
 use Rattle.promises.proofs.Accepted.{store-accepted}
 
 -- a legal command at RD: a run that does not consume it is cut
@@ -74,7 +74,7 @@ module _ (f : Features) (queue : List ℕ) where
 
 module _ (f : Features) (queue : List ℕ) (n : ℕ) where
   -- nothing happened
-  still : (e : End) (m : List ℕ) → closing e (controlOf m) ≡ controlOf m → (e ≡ Raised → ⊥) → Found f queue n 0 e m m
+  still : (e : End) (m : List ℕ) → closing e (controlOf m) ≡ controlOf m → (raise e ≡ 1 → ⊥) → Found f queue n 0 e m m
   unfolding advanced
   still e m same quiet =
       record {
@@ -87,9 +87,9 @@ module _ (f : Features) (queue : List ℕ) (n : ℕ) where
       }
 
   rest-still : (r : Rest) (m : List ℕ) → Found f queue n 0 (endOf r) m m
-  rest-still Rest·Off m = still Off m refl (rest-unraised Rest·Off)
-  rest-still Rest·Held m = still Held m refl (rest-unraised Rest·Held)
-  rest-still Rest·Empty m = still Empty m refl (rest-unraised Rest·Empty)
+  rest-still Rest·Off m = still Off m refl (λ r. omega (arith, r))
+  rest-still Rest·Held m = still Held m refl (λ r. omega (arith, r))
+  rest-still Rest·Empty m = still Empty m refl (λ r. omega (arith, r))
 
   -- the error was raised
   raised-found : (m : List ℕ) → 0 < length m → atRd f queue m ≡ Illegal → Found f queue n 0 Raised m (set m 0 (control-stores.raised (controlOf m)))
@@ -99,7 +99,7 @@ module _ (f : Features) (queue : List ℕ) (n : ℕ) where
       record {
         control-word = getD-set-same m 0 v 0 room;
         gone = λ t h. absurd (omega arith);
-        illegal = λ r. illegal;
+        illegal = λ r. ap isIllegal illegal;
         early = λ i h. inl (getD-set-other m 0 (word0 i) v 0 (omega arith));
         others = λ p a b. getD-set-other m 0 p v 0 a;
         long = length-set m 0 v;
@@ -117,7 +117,7 @@ module _ (f : Features) (queue : List ℕ) (n : ℕ) where
       record {
         control-word = later .control-word ∙ ap (λ (w : ℕ). closing e (advanced f queue k w)) word;
         gone = λ t h. from-cleared word t (later .gone t h);
-        illegal = λ r. ap (λ (w : ℕ). commandAt f queue w k) (sym word) ∙ later .illegal r;
+        illegal = λ r. ap (λ (w : ℕ). isIllegal (commandAt f queue w k)) (sym word) ∙ later .illegal r;
         early = λ j h. each here word room j h (ℕ-discrete j i) (later .early j h);
         others = λ p x y. later .others p x y ∙ getD-set-other m (word0 i) p 0 0 (λ q. y i below q);
         long = later .long ∙ length-set m (word0 i) 0;
@@ -177,7 +177,7 @@ module _ (f : Features) (queue : List ℕ) (n : ℕ) where
       record {
         control-word = later .control-word ∙ ap (λ (w : ℕ). closing e (advanced f queue k w)) word;
         gone = went;
-        illegal = λ r. ap (λ (w : ℕ). commandAt f queue w k) (sym word) ∙ later .illegal r;
+        illegal = λ r. ap (λ (w : ℕ). isIllegal (commandAt f queue w k)) (sym word) ∙ later .illegal r;
         early = λ i h. ⊎-elim (λ q. inl (q ∙ getD-set-other m 0 (word0 i) v 0 (omega arith))) (λ z. inr (z .0, onward i (z .1))) (later .early i h);
         others = λ p x y. later .others p x y ∙ getD-set-other m 0 p v 0 x;
         long = later .long ∙ length-set m 0 v;
@@ -234,7 +234,7 @@ module _ (f : Features) (queue : List ℕ) (n : ℕ) where
 
   by-last : (m : List ℕ) (d : Next (List ℕ)) → After m (last d m)
   by-last m (rests r) = rest-still r m
-  by-last m (stores w m′) = still Cut m refl (λ r. let z : _≡_ {A = ℕ} 0 1 = cc in omega arith)
+  by-last m (stores w m′) = still Cut m refl (λ r. omega (arith, r))
 
   -- for every allowance, and whatever the end
   pub found-after : (k : ℕ) (m : List ℕ) → Accepts m n → Found f queue n (run f queue k m .ran .consumed) (run f queue k m .ran .end) m (run f queue k m .memory)

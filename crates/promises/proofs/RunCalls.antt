@@ -14,7 +14,7 @@ use Rattle.control.proofs.Openness.{open-enabled, open-quiet}
 use Rattle.control_stores.specs.Stores as control-stores
 use Rattle.control_stores.proofs.AfterStores.{raised-keeps, raised-active, raised-err}
 use Rattle.commands.specs.declared.Features.{Features}
-use Rattle.commands.specs.Decoding.{decodeAt}
+use Rattle.commands.specs.Decoding.{decodeAt, isIllegal}
 use Rattle.image.specs.declared.Checked.{Checked}
 use Rattle.image.specs.declared.Checked.the-variants.{Accepted, Refused as NotAccepted}
 use Rattle.image.specs.Image.{check, controlOf}
@@ -91,7 +91,7 @@ module _ (f : Features) (queue : List ℕ) (n : ℕ) where
             enabled = λ z. open-enabled w on (sym (raised-keeps w control.cmdqenBits tt) ∙ ap control.cmdqen (sym word) ∙ z);
             in-error = ap control.active word ∙ raised-active w (open-quiet w on);
             code = ap control.err word ∙ raised-err w;
-            illegal = ap (λ (x : ℕ). decodeAt f queue (control.slot x)) word ∙ ap (λ (s : ℕ). decodeAt f queue s) (raised-slot w) ∙ illegal;
+            illegal = ap isIllegal (ap (λ (x : ℕ). decodeAt f queue (control.slot x)) word ∙ ap (λ (s : ℕ). decodeAt f queue s) (raised-slot w) ∙ illegal);
           }
 
   -- repeating a run that ended Raised: Held, and no word changes

@@ -6,7 +6,7 @@ use mathlib.Core.List.{List}
 use Prim.Native.Nat.{ℕ}
 use Rattle.control.specs.Control as control
 use Rattle.commands.specs.declared.Features.{Features}
-use Rattle.commands.specs.declared.Decoded.the-variants.{Illegal}
+use Rattle.commands.specs.Decoding.{isIllegal}
 use Rattle.image.specs.Image.{controlOf}
 use Rattle.due.specs.Due.{What, atRd}
 use Rattle.runs.specs.declared.End.{End}
@@ -38,7 +38,7 @@ pub record IsRaised (f : Features) (queue m : List ℕ) : Type 0 where
   pub enabled : control.cmdqen (controlOf m) ≡ 0 → ⊥
   pub in-error : control.active (controlOf m) ≡ true
   pub code : control.err (controlOf m) ≡ 1
-  pub illegal : atRd f queue m ≡ Illegal
+  pub illegal : isIllegal (atRd f queue m) ≡ true
 
 abbrev pub Means : Features → List ℕ → ℕ → End → Out (List ℕ) → Type 0
 Means f queue k Off o = IsOff (controlOf (o .memory))

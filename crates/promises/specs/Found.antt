@@ -5,19 +5,22 @@ use mathlib.Core.Bool.{true, false}
 use mathlib.Core.List.{List}
 use mathlib.Core.Logic.{_⊎_}
 use Prim.Native.Nat.{ℕ, zero, suc, _<_}
+use lib.Dec.{eqb}
 use lib.ListN.{length, getD}
+use Rattle.words.specs.Choice.{pick}
 use Rattle.control.specs.Control as control
 use Rattle.control_stores.specs.Stores as control-stores
 use Rattle.commands.specs.declared.Features.{Features}
 use Rattle.commands.specs.declared.Command.{Command}
 use Rattle.commands.specs.declared.Decoded.{Decoded}
-use Rattle.commands.specs.declared.Decoded.the-variants.{Legal, Illegal}
-use Rattle.commands.specs.Decoding.{decodeAt}
+use Rattle.commands.specs.declared.Decoded.the-variants.{Legal}
+use Rattle.commands.specs.Decoding.{decodeAt, isIllegal}
 use Rattle.image.specs.Image.{controlOf}
 use Rattle.due.specs.Due.{scopedAt, afterCommand}
 use Rattle.runs.specs.declared.End.{End}
-use Rattle.runs.specs.declared.End.the-variants.{Off, Held, Empty, Raised, Cut}
+use Rattle.runs.specs.declared.End.the-variants.{Cut}
 use Rattle.promises.specs.Places.{word0}
+use Rattle.promises.specs.Sums.{raise}
 
 -- the control word after t commands are consumed
 unfoldable pub advanced : Features → List ℕ → ℕ → ℕ → ℕ
@@ -30,11 +33,7 @@ commandAt f queue w t = decodeAt f queue (control.slot (advanced f queue t w))
 
 -- the control word that an end leaves
 abbrev pub closing : End → ℕ → ℕ
-closing Off w = w
-closing Held w = w
-closing Empty w = w
-closing Raised w = control-stores.raised w
-closing Cut w = w
+closing end w = pick (eqb (raise end) 1) (control-stores.raised w) w
 
 -- a consumed command: it was legal, and no row is in its scope any more
 pub record Consumed (f : Features) (queue : List ℕ) (n : ℕ) (m m′ : List ℕ) (t : ℕ) : Type 0 where
@@ -57,7 +56,7 @@ pub record Found (f : Features) (queue : List ℕ) (n consumed : ℕ) (end : End
   -- every command consumed was legal, and every row in its scope is gone
   pub gone : (t : ℕ) → t < consumed → Consumed f queue n m m′ t
   -- the command that the error was raised on was illegal
-  pub illegal : end ≡ Raised → commandAt f queue (controlOf m) consumed ≡ Illegal
+  pub illegal : raise end ≡ 1 → isIllegal (commandAt f queue (controlOf m) consumed) ≡ true
   -- a word 0 that changed is 0, and its row was in such a scope
   pub early : (i : ℕ) → i < n → (getD m′ (word0 i) 0 ≡ getD m (word0 i) 0) ⊎ ((getD m′ (word0 i) 0 ≡ 0) × WasInScope f queue m consumed end i)
   -- every other word is as it was
