@@ -1,4 +1,5 @@
 pub mod Laws
+pub mod OtherKinds
 pub mod Cases
 pub mod Blocks
 pub mod Containments

@@ -10,6 +10,7 @@ ghost use lib.Dec.{eqb};
 ghost use Rattle.rows.specs.Rows.{isGlobal};
 ghost use Rattle.commands.specs.declared.Command.the-variants.{CfgiSte, CfgiSteRange, CfgiCd, CfgiCdAll, TlbiNhAll, TlbiNhAsid, TlbiNhVa, TlbiNhVaa, TlbiS12Vmall, TlbiS2Ipa, TlbiNsnhAll};
 ghost use Rattle.scopes.specs.Scopes.{spared, meets, steBlock, openBits, steOf, cdOf, cdAt, stageOf, addressOf, stageAt, hasAsid, narrow, removes, idle, inScope};
+ghost use Rattle.scopes.specs.Kinds.{isAbout};
 
 // The 2^span streams that are equal to one of them above their lowest span bits.
 pub struct Block {
@@ -245,11 +246,36 @@ pub fn idle(f: Features, c: Command) -> bool
     }
 }
 
-// Whether a row is in a command's scope.
+// Document 02, T-03: whether a command is about rows of a kind at all.
+fn is_about(c: Command, kind: u64) -> bool
+    ensures { λ r. ⌜ r ≡ isAbout c kind ⌝ }
+{
+    match c {
+        Command::PrefetchConfig => false,
+        Command::PrefetchAddr => false,
+        Command::CfgiSte(_, _) => (kind == kinds::STE) | (kind == kinds::CD),
+        Command::CfgiSteRange(_, _) => (kind == kinds::STE) | (kind == kinds::CD),
+        Command::CfgiCd(_, _, _) => kind == kinds::CD,
+        Command::CfgiCdAll(_) => kind == kinds::CD,
+        Command::TlbiNhAll(_) => kind == kinds::STAGE1,
+        Command::TlbiNhAsid(_, _) => kind == kinds::STAGE1,
+        Command::TlbiNhVa(_, _, _) => kind == kinds::STAGE1,
+        Command::TlbiNhVaa(_, _) => kind == kinds::STAGE1,
+        Command::TlbiS12Vmall(_) => (kind == kinds::STAGE1) | (kind == kinds::STAGE2),
+        Command::TlbiS2Ipa(_, _) => kind == kinds::STAGE2,
+        Command::TlbiNsnhAll => (kind == kinds::STAGE1) | (kind == kinds::STAGE2),
+        Command::Sync(_) => false,
+    }
+}
+
+// Whether a row is in a command's scope. Word 0 alone tells it of most rows.
 pub fn in_scope(f: Features, c: Command, row: Row) -> bool
     ensures { λ r. ⌜ r ≡ inScope f c row ⌝ }
 {
     if row.w0 == 0 {
+        return false;
+    }
+    if !is_about(c, rows::kind_of(row)) {
         return false;
     }
     !idle(f, c) & removes(c, row)
