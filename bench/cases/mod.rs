@@ -21,8 +21,8 @@ pub struct Size {
     pub log2size: u64,
 }
 
-/// The limits of document 01: every case has this size, so that figures can be
-/// compared with earlier ones.
+/// The limits of document 01: the size of the cases of earlier figures, so that
+/// these can be compared.
 const USUAL: Size = Size {
     rows: 128,
     log2size: 8,
