@@ -50,6 +50,16 @@ def print_times(folder, all_cases):
     print()
 
 
+def print_growth(folder, by_letter):
+    """Each case that is measured at two sizes: what a row costs a command at both."""
+    head(["nanoseconds", "commands", "rows"] + [f"{side}: command and row" for side in SIDES.values()], 1)
+    for letter in "agbh":
+        case = by_letter[letter]
+        sides = [Times(folder, letter, *MODELS).unit] + [Times(folder, letter, kind).model for kind in MODELS]
+        row([letter, number(case["parts"]), number(case["rows"])] + [f"{side.middle / case['rows']:.2f}" for side in sides])
+    print()
+
+
 def print_counts(folder, all_cases):
     head(["instructions"] + HEAD, 2)
     for case in all_cases:
@@ -106,7 +116,17 @@ def print_check(folder, by_letter):
         f"{unit.all / by_letter['e']['rows']:.0f} instructions, the model {model.all / by_letter['e']['rows']:.0f}, and "
         f"{whole.all / by_letter['e']['rows']:.0f} in one codegen unit. {unit.writes:,} of the unit's {unit.all:,} "
         f"instructions write to memory, {model.writes:,} of the model's {model.all:,}. And the unit's time depends on "
-        f"where the stack stands within a cache line: by place {', '.join(number(place) for place in places)} ns."
+        f"where the stack stands within a cache line: by place {', '.join(number(place) for place in places)} ns.\n"
+    )
+
+
+def print_limits(folder, by_letter):
+    times = {letter: Times(folder, letter, *MODELS).unit.middle for letter in "agbh"}
+    a, g, b, h = [f"{time / by_letter[letter]['rows']:.2f}" for letter, time in times.items()]
+    small, large = [f"{times[letter] * by_letter[letter]['parts'] / 1e6:.1f}" for letter in "bh"]
+    print(
+        f"**A run grows with commands times rows**: at the limits a row costs a command {g} ns in g, beside {a} in a, and "
+        f"{h} in h, beside {b} in b. The whole run takes {large} ms in h and {small} ms in b."
     )
 
 
@@ -116,11 +136,13 @@ def main(folder):
     machine()
     print("![Ratios of times](figures/bench.svg)\n")
     print_times(folder, all_cases)
+    print_growth(folder, by_letter)
     print_counts(folder, all_cases)
     print_splits(folder, all_cases[:3])
     print_functions(folder, all_cases[:3])
     print_scan(folder, by_letter)
     print_check(folder, by_letter)
+    print_limits(folder, by_letter)
 
 
 if __name__ == "__main__":

@@ -78,7 +78,7 @@ int main(int argc, char **argv) {
     struct call call;
     for (uint64_t i = 1; i <= count; i++) {
         if (left == 0) {
-            any_input(&dice, &input, 8);
+            any_input(&dice, &input, LARGEST, 8);
             left = 1 + below(&dice, 8);
             if (below(&dice, 3) == 0) damage(&dice, &input), left = 1;
         }

@@ -21,6 +21,9 @@ uint64_t any_width(struct dice *dice) {
 
 #define PICK(dice, pool) ((pool)[below((dice), sizeof(pool) / sizeof(pool)[0])])
 
+const struct size LARGEST = {MOST_LOG2SIZE, MOST_ROWS};
+const struct size SMALL = {MOST_LOG2SIZE - 4, MOST_SLOTS / 16 / 2}; /* a sixteenth of the slots, half as many rows */
+
 static const uint64_t STREAMS[] = {0, 1, 5, 0x40, 0x41, 0x100, 0x107, 0x3FF, 0x400, 0xFFFFFFFF};
 static const uint64_t SUBSTREAMS[] = {0, 1, 7, 0xFFFFF};
 static const uint64_t VMIDS[] = {0, 0, 1, 5, 0x105, 0xFFFF};
@@ -150,8 +153,9 @@ static void fill_queue(struct dice *dice, struct input *input, uint64_t slots, u
     }
 }
 
-void any_input(struct dice *dice, struct input *input, uint64_t rarity) {
-    uint64_t log2size = below(dice, below(dice, 8) ? 5 : 9), rows = 1 + below(dice, below(dice, 8) ? 24 : MOST_ROWS);
+void any_input(struct dice *dice, struct input *input, struct size most, uint64_t rarity) {
+    uint64_t log2size = below(dice, below(dice, 8) ? 5 : most.log2size + 1);
+    uint64_t rows = 1 + below(dice, below(dice, 8) ? 24 : most.rows);
     memset(input, 0, sizeof *input);
     input->kept[0] = any_control(dice, log2size);
     input->words = 1 + 4 * rows;
@@ -163,14 +167,31 @@ void any_input(struct dice *dice, struct input *input, uint64_t rarity) {
     fill_queue(dice, input, UINT64_C(1) << log2size, rarity);
 }
 
-void full_input(struct dice *dice, struct input *input, uint64_t rarity) {
+/* A full queue and room for the rows; the index wraps after the first command. */
+static void start_full(struct input *input, struct size size) {
+    uint64_t slots = UINT64_C(1) << size.log2size;
     memset(input, 0, sizeof *input);
-    input->kept[0] = control_word(0x1FF, 0xFF, CMDQEN, 8); /* the index wraps after the first command */
-    input->words = MOST_WORDS;
-    for (uint64_t row = 0; row < MOST_ROWS; row++)
-        some_row(dice, input->kept + 1 + 4 * row);
+    input->kept[0] = control_word(2 * slots - 1, slots - 1, CMDQEN, size.log2size);
+    input->words = 1 + 4 * size.rows;
+    input->bytes = 16 * slots;
     input->features = 15;
-    fill_queue(dice, input, MOST_SLOTS, rarity);
+}
+
+void full_input(struct dice *dice, struct input *input, struct size size, uint64_t rarity) {
+    start_full(input, size);
+    for (uint64_t row = 0; row < size.rows; row++)
+        some_row(dice, input->kept + 1 + 4 * row);
+    fill_queue(dice, input, UINT64_C(1) << size.log2size, rarity);
+}
+
+void spread_input(struct input *input) {
+    start_full(input, LARGEST);
+    for (uint64_t row = 0; row < MOST_ROWS; row++) /* stage 1, not last-level, a VMID each */
+        input->kept[1 + 4 * row] = 5 | 12 << 5 | row << 16;
+    for (uint64_t slot = 0; slot < MOST_SLOTS; slot++) {
+        uint64_t vmid = slot / 4 * 7 % MOST_ROWS; /* each once, in another order than the rows' */
+        put_command(input->queue + 16 * slot, slot % 4 ? 0x1046 : 0x10 | vmid << 32, 0);
+    }
 }
 
 void damage(struct dice *dice, struct input *input) {

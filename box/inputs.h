@@ -1,12 +1,25 @@
 /* Inputs for the tests of the compiled unit: images, queues and calls from repeatable random numbers, made from the layout that
- * document 01 gives. Nothing here comes from the unit. Identifiers come from small pools, so that rows and commands meet. */
+ * document 01 gives and the limits of document 02, T-06. Nothing here comes from the unit. Identifiers come from small pools, so
+ * that rows and commands meet. */
 #ifndef INPUTS_H
 #define INPUTS_H
 
 #include <stddef.h>
 #include <stdint.h>
 
-enum { MOST_ROWS = 128, MOST_WORDS = 1 + 4 * MOST_ROWS, ROOM = MOST_WORDS + 7, MOST_SLOTS = 256 };
+enum { MOST_LOG2SIZE = 12, MOST_ROWS = 1000 };
+enum { MOST_SLOTS = 1 << MOST_LOG2SIZE, QUEUE_ROOM = 16 * (MOST_SLOTS + 1) };
+enum { MOST_WORDS = 1 + 4 * MOST_ROWS, ROOM = MOST_WORDS + 7 };
+
+/* More stores than a run can make, so that one that makes too many is seen. */
+enum { MOST_STORES = 2 * (MOST_ROWS + MOST_SLOTS) };
+
+/* How large an input may be: as the limits allow; or so that a run can be made at every allowance, which takes stores times
+ * commands times rows. */
+struct size {
+    uint64_t log2size, rows;
+};
+extern const struct size LARGEST, SMALL;
 
 /* Parts of the control word. */
 #define RD_BITS UINT64_C(0xFFFFF)
@@ -25,7 +38,7 @@ struct dice {
 struct input {
     uint64_t kept[ROOM];
     size_t words;
-    uint8_t queue[16 * MOST_SLOTS + 16];
+    uint8_t queue[QUEUE_ROOM];
     size_t bytes;
     uint64_t features;
 };
@@ -50,11 +63,14 @@ void put_command(uint8_t slot[16], uint64_t low, uint64_t high);
 
 uint64_t control_word(uint64_t rd, uint64_t wr, uint64_t flags, uint64_t log2size);
 
-/* An accepted image with its queue; about one command in `rarity` is spoilt. */
-void any_input(struct dice *dice, struct input *input, uint64_t rarity);
+/* An accepted image with its queue, mostly a small one; about one command in `rarity` is spoilt. */
+void any_input(struct dice *dice, struct input *input, struct size most, uint64_t rarity);
 
 /* Every row used, every slot waiting, and the queue enabled. */
-void full_input(struct dice *dice, struct input *input, uint64_t rarity);
+void full_input(struct dice *dice, struct input *input, struct size size, uint64_t rarity);
+
+/* The same at the limits, with the most stores that a run can make: every fourth command removes a row of its own. */
+void spread_input(struct input *input);
 
 /* Makes an image or a queue wrong in one of many ways, some of which are none. */
 void damage(struct dice *dice, struct input *input);

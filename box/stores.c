@@ -1,7 +1,8 @@
 /* stores [SEED [ROUNDS]]: the stores of the compiled unit, one by one, against the order that document 01 gives.
  *
  * What a run has to store is read from what it leaves at allowance 0, 1, 2 and so on: one word differs each time, since clearing
- * a used row, moving RD and flipping GERROR all change the word. What a fill and a control call have to store is in their words.
+ * a used row, moving RD and flipping GERROR all change the word. At the limits, where that takes too long, it is read from calls
+ * of one store each. What a fill and a control call have to store is in their words.
  * Every call is then made on watched memory, and word, value, order and number of the stores that are seen have to be those; a
  * call that is refused, a transaction and the state have to store nothing. Ends with 1 at the first difference, and where a kind
  * of store never came up. */
@@ -14,6 +15,11 @@
 #include "call.h"
 #include "tahvenno.h"
 #include "watch.h"
+
+_Static_assert(MOST_ROWS == TAHVENNO_MAX_ROWS && MOST_LOG2SIZE == TAHVENNO_MAX_LOG2SIZE, "the header has other limits");
+
+/* At how many places a run at the limits is cut. */
+enum { PLACES = 1000 };
 
 static uint64_t seed = 1;
 
@@ -74,6 +80,16 @@ static void check_call(const struct input *input, const struct call *call, const
     }
 }
 
+/* How many words a run changed; the last of them, and what is in it now, is the store. */
+static size_t changed(const struct input *input, const uint64_t *before, const uint64_t *after, const struct outcome *outcome,
+                      struct store *store) {
+    size_t differ = 0;
+    if (outcome->returned) fail("run: refusal %" PRIu64 " of an image that is well formed", outcome->returned);
+    for (size_t i = 0; i < input->words; i++)
+        if (before[i] != after[i]) differ++, *store = (struct store){i, after[i]};
+    return differ;
+}
+
 /* The stores that a run has to make, from the memory at each allowance. */
 static size_t run_stores(const struct input *input, struct store *expected, struct outcome *last) {
     struct call call = {.which = RUN};
@@ -81,20 +97,34 @@ static size_t run_stores(const struct input *input, struct store *expected, stru
     size_t count = 0;
     memcpy(before, input->kept, sizeof before);
     for (call.allowance = 0;; call.allowance++) {
-        size_t differ = 0, word = 0;
         memcpy(after, input->kept, sizeof after);
         make_call(&call, input, after, input->queue, last);
-        if (last->returned) fail("run: refusal %" PRIu64 " of an image that is well formed", last->returned);
-        for (size_t i = 0; i < input->words; i++)
-            if (before[i] != after[i]) differ++, word = i;
+        size_t differ = changed(input, before, after, last, &expected[count]);
         if (differ != (call.allowance != 0 && count < last->answer[2]))
             fail("run: %zu words differ at allowance %" PRIu64, differ, call.allowance);
-        if (differ) expected[count++] = (struct store){word, after[word]};
+        count += differ;
         if (count != last->answer[2]) fail("run: %zu stores, reported %" PRIu64, count, last->answer[2]);
         if (last->answer[0] != TAHVENNO_CUT) return count;
-        if (count == MOST_STORES) fail("run: no end");
+        if (count + 1 == MOST_STORES) fail("run: no end");
         memcpy(before, after, sizeof before);
     }
+}
+
+/* The same from calls of one store, each of which goes on where the last was cut. */
+static size_t stores_one_by_one(const struct input *input, struct store *expected, struct outcome *last) {
+    struct call call = {.which = RUN, .allowance = 1};
+    uint64_t before[ROOM], after[ROOM];
+    size_t count = 0;
+    memcpy(after, input->kept, sizeof after);
+    do {
+        memcpy(before, after, sizeof before);
+        make_call(&call, input, after, input->queue, last);
+        size_t differ = changed(input, before, after, last, &expected[count]);
+        if (differ != 1 || last->answer[2] != 1) fail("run: %zu words differ at allowance 1", differ);
+        count++;
+        if (count + 1 == MOST_STORES) fail("run: no end");
+    } while (last->answer[0] == TAHVENNO_CUT);
+    return count;
 }
 
 /* Document 01's order, with no look at what a command is about: rows from the lowest up are cleared, then RD goes forward by one;
@@ -127,6 +157,28 @@ static void check_order(const struct input *input, const struct store *stores, s
     if (rows) fail("run: rows were cleared and RD did not move");
 }
 
+/* A run at the limits: whole, one store short of it, and cut at places all along it, each call going on where the last was cut. */
+static void check_long_run(struct input *input) {
+    static struct store expected[MOST_STORES];
+    struct outcome last;
+    struct call call = {.which = RUN, .allowance = UINT64_MAX};
+    size_t count = stores_one_by_one(input, expected, &last), made = 0;
+    check_order(input, expected, count, last.answer[0]);
+    check_call(input, &call, expected, count);
+    call.allowance = count - 1;
+    check_call(input, &call, expected, count - 1);
+    for (size_t place = 1; place <= PLACES; place++) {
+        size_t next = count * place / (PLACES + 1);
+        call.allowance = next - made;
+        check_call(input, &call, expected + made, next - made);
+        for (; made < next; made++) input->kept[expected[made].word] = expected[made].value;
+    }
+    call.allowance = UINT64_MAX;
+    check_call(input, &call, expected + made, count - made);
+    seen.cut += PLACES + 1;
+    seen.runs++;
+}
+
 /* A run at every allowance up to one more than it needs, and at the largest. */
 static void check_run(const struct input *input) {
     static struct store expected[MOST_STORES];
@@ -151,21 +203,25 @@ static void check_run(const struct input *input) {
 static void check_runs(struct dice *dice, int full, int random) {
     static struct input input;
     for (int i = 0; i < full; i++) {
-        full_input(dice, &input, 1000);
+        full_input(dice, &input, SMALL, 1000);
         check_run(&input);
     }
-    full_input(dice, &input, 1000); /* only moves of RD, which a compiler might gather */
-    for (size_t slot = 0; slot < MOST_SLOTS; slot++) put_command(input.queue + 16 * slot, 0x1046, 0);
+    full_input(dice, &input, SMALL, 1000); /* only moves of RD, which a compiler might gather */
+    for (size_t at = 0; at < input.bytes; at += 16) put_command(input.queue + at, 0x1046, 0);
     check_run(&input);
     input.words = 5;
     check_run(&input);
-    full_input(dice, &input, 1000); /* one command that takes every stage row */
-    put_command(input.queue + 16 * 255, 0x30, 0);
+    full_input(dice, &input, SMALL, 1000); /* one command, the first, that takes every stage row */
+    put_command(input.queue + input.bytes - 16, 0x30, 0);
     check_run(&input);
     for (int i = 0; i < random; i++) {
-        any_input(dice, &input, 1 + below(dice, 64));
+        any_input(dice, &input, SMALL, 1 + below(dice, 64));
         check_run(&input);
     }
+    full_input(dice, &input, LARGEST, UINT64_MAX);
+    check_long_run(&input);
+    spread_input(&input);
+    check_long_run(&input);
 }
 
 /* A fill at each allowance, into a row whose other words hold some of the new ones already. */
@@ -193,7 +249,7 @@ static void check_fills(struct dice *dice, int rounds) {
     for (int i = 0; i < rounds; i++)
         for (unsigned kind = 0; kind < 4; kind++)
             for (unsigned same = 0; same < 16; same += 2) {
-                any_input(dice, &input, 8);
+                any_input(dice, &input, LARGEST, 8);
                 check_fill(dice, &input, kind, i % 2, same);
             }
 }
@@ -213,7 +269,7 @@ static void check_others(struct dice *dice, int rounds) {
     uint64_t plain[ROOM];
     for (int i = 0; i < rounds; i++) {
         enum which which = (enum which)(i % CALLS);
-        any_input(dice, &input, 8);
+        any_input(dice, &input, LARGEST, 8);
         any_call(dice, &input, which, &call);
         if (below(dice, 3) == 0) damage(dice, &input);
         memcpy(plain, input.kept, sizeof plain);

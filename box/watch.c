@@ -10,7 +10,8 @@
 #include <unistd.h>
 
 /* Kept memory begins on the second page; what lies before and after it is watched too. The queue has the last pages. */
-enum { PAGE = 4096, KEPT_AT = PAGE, QUEUE_AT = 4 * PAGE, WHOLE = 6 * PAGE };
+enum { PAGE = 4096, KEPT_AT = PAGE, KEPT_PAGES = 8 * ROOM / PAGE + 2, QUEUE_PAGES = QUEUE_ROOM / PAGE + 1 };
+enum { QUEUE_AT = KEPT_AT + KEPT_PAGES * PAGE, WHOLE = QUEUE_AT + QUEUE_PAGES * PAGE };
 
 static unsigned char *lent, *written; /* the same memory, read-only and writable */
 static size_t kept_at, kept_words;
@@ -62,7 +63,7 @@ void watch_load(const struct input *input, size_t shift) {
     kept_at = KEPT_AT + 8 * shift;
     kept_words = input->words;
     memcpy(written + kept_at, input->kept, 8 * input->words);
-    memcpy(written + QUEUE_AT, input->queue, sizeof input->queue);
+    memcpy(written + QUEUE_AT, input->queue, input->bytes);
 }
 
 uint64_t *watch_kept(void) {

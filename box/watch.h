@@ -12,8 +12,6 @@
 
 #include "inputs.h"
 
-enum { MOST_STORES = 4096 };
-
 struct store {
     size_t word;
     uint64_t value;

@@ -11,7 +11,6 @@
 
 typedef uint64_t pair __attribute__((vector_size(16), aligned(8)));
 typedef volatile uint64_t word;
-enum { MOST_STORES = 4096 };
 
 struct due {
     size_t word;
@@ -64,21 +63,26 @@ static int asked(const uint64_t *kept, size_t words, const uint8_t *queue, size_
     return 0;
 }
 
-/* What a run stores: the unit makes one store a call on a copy, and the copy tells which. */
+/* The first stores of a run, as many as are wanted: the unit makes one store a call on a copy, and the copy tells which. If the
+ * input is the last one, it goes on from where the copy is. */
 uint64_t __real_tahvenno_run(uint64_t *, size_t, const uint8_t *, size_t, uint64_t, uint64_t, uint64_t *);
-static void stores_of(const uint64_t *kept, size_t words, const uint8_t *queue, size_t bytes, uint64_t features,
-                        struct due *due) {
+static const struct due *stores_of(const uint64_t *kept, size_t words, const uint8_t *queue, size_t bytes, uint64_t features,
+                                   size_t wanted) {
+    static struct due due[MOST_STORES];
     static uint64_t copy[ROOM], before[ROOM];
+    static size_t known;
     uint64_t answer[8];
-    size_t count = 0;
-    memcpy(copy, kept, 8 * words);
-    do {
+    if (!asked(kept, words, queue, bytes, features)) {
+        memcpy(copy, kept, 8 * words);
+        known = 0;
+    }
+    for (; known < wanted; known++) {
         memcpy(before, copy, 8 * words);
         __real_tahvenno_run(copy, words, queue, bytes, features, 1, answer);
         for (size_t i = 0; i < words; i++)
-            if (before[i] != copy[i]) due[count] = (struct due){i, copy[i]};
-        count += answer[2];
-    } while (answer[2] && count < MOST_STORES);
+            if (before[i] != copy[i]) due[known] = (struct due){i, copy[i]};
+    }
+    return due;
 }
 
 /* Puts a wrong order on what a run stores. */
@@ -118,7 +122,7 @@ static void write_back(uint64_t *kept, size_t words, const struct due *due, size
 
 uint64_t __wrap_tahvenno_run(uint64_t *kept, size_t words, const uint8_t *queue, size_t bytes, uint64_t features,
                              uint64_t allowance, uint64_t answer[8]) {
-    static struct due all[MOST_STORES + 1], due[MOST_STORES];
+    static struct due due[MOST_STORES];
     static uint64_t copy[ROOM];
     memcpy(copy, kept, 8 * words);
     uint64_t returned = __real_tahvenno_run(copy, words, queue, bytes, features, allowance, answer);
@@ -126,9 +130,8 @@ uint64_t __wrap_tahvenno_run(uint64_t *kept, size_t words, const uint8_t *queue,
         if (fault("refusal-stores")) store(kept, 0, kept[0]);
         return returned;
     }
-    if (!asked(kept, words, queue, bytes, features)) stores_of(kept, words, queue, bytes, features, all);
     size_t count = answer[2];
-    memcpy(due, all, count * sizeof due[0]);
+    memcpy(due, stores_of(kept, words, queue, bytes, features, count), count * sizeof due[0]);
     reorder(due, count);
     if (fault("run-queue")) *(volatile uint8_t *)(uintptr_t)queue = *queue;
     if (fault("run-beyond")) store(kept, words, 0);

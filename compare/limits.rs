@@ -1,11 +1,11 @@
-//! The limits of document 01, for the whole program: the model refuses beyond
-//! them, the generators reach them, and the phases stand on both sides of them.
-//! Another size of table or queue is another number here, and nowhere else.
+//! The limits of documents 01 and 02, for the whole program: the model refuses
+//! beyond them, the generators reach them, and the phases stand on both sides of
+//! them. Another size of table or queue is another number here, and nowhere else.
 
-/// LOG2SIZE at most.
-pub const LOG2SIZE: u64 = 8;
-/// Rows of a table at most; at least it has one.
-pub const ROWS: u64 = 128;
+/// LOG2SIZE at most (T-06).
+pub const LOG2SIZE: u64 = 12;
+/// Rows of a table at most (T-06); at least it has one.
+pub const ROWS: u64 = 1_000;
 
 /// One more than the largest address of a row.
 pub const ADDRESS: u64 = 1 << 52;

@@ -27,6 +27,8 @@ enum Fault {
     Unremoved,
     /// Commands are read with bits of their high word lost.
     Read(u64, u64),
+    /// The queue's length is taken modulo 2^16, which the largest one has.
+    Wrapped,
 }
 
 pub struct Wrong {
@@ -73,6 +75,7 @@ pub fn all() -> Vec<Wrong> {
     add("the last row is not removed".into(), Fault::Unremoved);
     add("04: Range of four bits".into(), Fault::Read(0x04, 1 << 4));
     add("03: Leaf not read".into(), Fault::Read(0x03, 1));
+    add("a queue's length of 16 bits".into(), Fault::Wrapped);
     all
 }
 
@@ -100,16 +103,16 @@ impl Wrong {
     /// Makes the call as `unit::perform` does, with the fault.
     pub fn perform(&self, call: Call, kept: &mut Lent, answer: &mut Lent) -> u64 {
         let before = kept.inner().to_vec();
-        let number = match (self.fault, call) {
+        let number = match (call, self.seen(call)) {
             (
-                Fault::Read(code, lost),
                 Call::Run {
-                    queue,
                     features,
                     allowance,
+                    ..
                 },
+                Some(queue),
             ) => {
-                let queue = &misread(queue, code, lost);
+                let queue = &queue;
                 let call = Call::Run {
                     queue,
                     features,
@@ -120,6 +123,17 @@ impl Wrong {
             _ => unit::perform(self.passed(call), kept, answer),
         };
         self.after(call, &before, number, kept, answer)
+    }
+
+    /// The queue of a run as the unit sees it, if that is another.
+    fn seen(&self, call: Call) -> Option<Vec<u8>> {
+        match (self.fault, call) {
+            (Fault::Read(code, lost), Call::Run { queue, .. }) => Some(misread(queue, code, lost)),
+            (Fault::Wrapped, Call::Run { queue, .. }) => {
+                Some(queue[..queue.len() % (1 << 16)].to_vec())
+            }
+            _ => None,
+        }
     }
 
     /// The call as it gets to the unit.

@@ -2,9 +2,9 @@
  * Tahvenno: the command queue, the cached rows and the translation of an emulated Arm SMMUv3.
  *
  * MEMORY. The caller owns everything. `kept` points to the kept memory, `words` 64-bit words: one control word, then rows of
- * four words, 1 to 128 of them; their layout is below. `queue` points to the guest's command queue, `bytes` bytes of 16 a slot.
- * `answer` points to eight words that the call fills, those not named below with zero. The unit keeps no pointer and no
- * state of its own between calls, allocates nothing, and needs no function of a C library.
+ * four words, 1 to TAHVENNO_MAX_ROWS of them; their layout is below. `queue` points to the guest's command queue, `bytes` bytes
+ * of 16 a slot. `answer` points to eight words that the call fills, those not named below with zero. The unit keeps no pointer
+ * and no state of its own between calls, allocates nothing, and needs no function of a C library.
  *
  * The caller sees to this, since the proof takes it for granted:
  *
@@ -18,7 +18,7 @@
  * WHAT COMES BACK. Each call returns 0 if it was carried out, else the number of its refusal, and then not one word of kept
  * memory has changed. Whatever the words and bytes are, a call ends and gives one of these:
  *
- *    1  the length is not 1 + 4 N words, N from 1 to 128
+ *    1  the length is not 1 + 4 N words, N from 1 to TAHVENNO_MAX_ROWS
  *    2  the control word is ill formed
  *    3  a row is ill formed; answer[0] is the lowest such row, counted from 0
  *    4  run: the queue's length is not 16 times 2^LOG2SIZE bytes
@@ -34,8 +34,8 @@
  * ALLOWANCES. A run and a fill store single 64-bit words, in an order that does not depend on the allowance, and make at most
  * `allowance` of them: a call with allowance k leaves what a power cut after its k-th store leaves. A fill makes 4 stores; a run
  * makes one for each row that it removes and each command that it consumes, and one if it raises, so never more than there are
- * used rows and waiting commands (384 at most). An allowance of 0 makes no store: where one is due the call ends Cut, and called
- * so again it never gets further. The other calls store one word or none.
+ * used rows and waiting commands (TAHVENNO_MAX_STORES at most). An allowance of 0 makes no store: where one is due the call ends
+ * Cut, and called so again it never gets further. The other calls store one word or none.
  *
  * A run that ended Cut goes on when it is called again. A fill does not: it starts from its first store every time, and until
  * its last store the row is empty. Repeated after it has finished, a fill is refused with 8 and an acknowledge with 6, a run that
@@ -80,11 +80,13 @@
 extern "C" {
 #endif
 
-/* Sizes: of the kept memory in words, of the queue in bytes. A fill makes as many stores as a row has words. */
-#define TAHVENNO_MAX_ROWS 128
+/* Sizes: of the kept memory in words, of the queue in bytes. A fill makes as many stores as a row has words, a run at most
+ * TAHVENNO_MAX_STORES. */
+#define TAHVENNO_MAX_ROWS 1000
 #define TAHVENNO_ROW_WORDS 4
 #define TAHVENNO_WORDS(rows) (1 + TAHVENNO_ROW_WORDS * (rows))
-#define TAHVENNO_MAX_LOG2SIZE 8
+#define TAHVENNO_MAX_LOG2SIZE 12
+#define TAHVENNO_MAX_STORES (TAHVENNO_MAX_ROWS + (1 << TAHVENNO_MAX_LOG2SIZE))
 #define TAHVENNO_SLOT_BYTES 16
 #define TAHVENNO_QUEUE_BYTES(log2size) ((size_t)TAHVENNO_SLOT_BYTES << (log2size))
 #define TAHVENNO_ANSWER_WORDS 8
@@ -101,8 +103,9 @@ extern "C" {
  * the last slot, as in SMMU_CMDQ_PROD and SMMU_CMDQ_CONS. RD equal to WR is an empty queue; the same slot with the other wrap
  * bit is a full one.
  *
- * Well formed: LOG2SIZE at most 8; both indexes below 2^(LOG2SIZE + 1); WR less RD, modulo that, at most 2^LOG2SIZE; ERR 0 or 1
- * (CERROR_ILL); ERR 1 while the error is active, which it is if GERROR differs from GERRORN; every other bit 0.
+ * Well formed: LOG2SIZE at most TAHVENNO_MAX_LOG2SIZE; both indexes below 2^(LOG2SIZE + 1); WR less RD, modulo that, at most
+ * 2^LOG2SIZE; ERR 0 or 1 (CERROR_ILL); ERR 1 while the error is active, which it is if GERROR differs from GERRORN; every other
+ * bit 0.
  *
  * An empty kept memory: first 0 in word 0 of every row (their other words are free), then in the control word
  * TAHVENNO_PUT(TAHVENNO_LOG2SIZE, n), with TAHVENNO_CMDQEN if the queue is enabled. In this order a cut never leaves an old row

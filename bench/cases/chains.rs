@@ -1,12 +1,12 @@
 //! A table of 32 streams, each with its STE, CD, stage 1 and stage 2 row.
 
-use super::{memory, Case, Per, Work, ALL_FEATURES, COMMANDS, FULL_OFF, ROWS};
+use super::{memory, Case, Per, Work, ALL_FEATURES, USUAL};
 use super::{STAGE1_PAYLOAD, STAGE2_PAYLOAD, STE_PAYLOAD};
 use crate::call::Asked;
 use crate::model::run::End;
 use crate::rows::{cd, ste, Reach, Words, STAGE1, STAGE2};
 
-const CHAINS: u64 = ROWS as u64 / 4;
+const CHAINS: u64 = USUAL.rows as u64 / 4;
 
 fn stream(number: u64) -> u64 {
     8 * number
@@ -51,9 +51,10 @@ pub fn check() -> Case {
     Case {
         letter: "e",
         what: "the check of the image alone (a run that ends Off)",
-        kept: memory(FULL_OFF, &rows()),
+        size: USUAL,
+        kept: memory(USUAL, 0, &rows()),
         work: Work::Runs {
-            queues: vec![vec![0; 16 * COMMANDS]],
+            queues: vec![vec![0; 16 * USUAL.commands()]],
             features: ALL_FEATURES,
         },
         per: Per::Call,
@@ -68,7 +69,8 @@ pub fn transaction() -> Case {
     Case {
         letter: "f",
         what: "a transaction of both stages, its rows last",
-        kept: memory(FULL_OFF, &rows()),
+        size: USUAL,
+        kept: memory(USUAL, 0, &rows()),
         work: Work::Translate(Asked {
             stream: stream(last) as u32,
             substream: 0,

@@ -1,7 +1,7 @@
 //! What a Linux guest sent (crates/verdicts/data), a queueful at a time, each time
 //! over the same full table.
 
-use super::{bytes, memory, shuffle, Case, Command, Per, Work, COMMANDS, ENABLED, FULL_OFF, ROWS};
+use super::{bytes, memory, shuffle, Case, Command, Per, Work, ENABLED, USUAL};
 use super::{STAGE1_PAYLOAD, STE_PAYLOAD};
 use crate::model::run::End;
 use crate::rows::{cd, ste, Reach, Words, STAGE1};
@@ -52,19 +52,21 @@ fn rows(commands: &[Command]) -> Vec<Words> {
         };
         rows.push(reach.page(address, STAGE1_PAYLOAD));
     }
-    rows.truncate(ROWS);
+    rows.truncate(USUAL.rows);
     shuffle(8, &mut rows);
     rows
 }
 
 pub fn case() -> Case {
     let commands = commands();
+    let queues = commands.chunks_exact(USUAL.commands());
     Case {
         letter: "d",
         what: "a Linux guest's commands",
-        kept: memory(FULL_OFF | ENABLED, &rows(&commands)),
+        size: USUAL,
+        kept: memory(USUAL, ENABLED, &rows(&commands)),
         work: Work::Runs {
-            queues: commands.chunks_exact(COMMANDS).map(bytes).collect(),
+            queues: queues.map(|queue| bytes(USUAL, queue)).collect(),
             features: FEATURES,
         },
         per: Per::Command,

@@ -1,29 +1,28 @@
-//! Every second command removes one row, so that the table empties evenly.
+//! Each row is removed by a command of its own, anywhere among others that remove
+//! none, so that the table empties evenly.
 
-use super::{shuffle, Case, Command, COMMANDS, ROWS, STAGE1_PAYLOAD, STAGE2_PAYLOAD, STE_PAYLOAD};
+use super::{shuffle, Case, Command, Size, STAGE1_PAYLOAD, STAGE2_PAYLOAD, STE_PAYLOAD};
 use crate::rows::{cd, cd_table, ste, ste_block, Reach, Words, STAGE1, STAGE2};
 
 /// Code 30 isn't among them, since it would empty the table at once.
 const CODES: [u64; 10] = [0x03, 0x04, 0x05, 0x06, 0x10, 0x11, 0x12, 0x13, 0x28, 0x2A];
 
-pub fn case() -> Case {
+pub fn case(letter: &'static str, what: &'static str, size: Size) -> Case {
     let code = |place: usize| CODES[place % CODES.len()];
-    let mut rows: Vec<Words> = (0..ROWS).map(|i| row(code(i), i as u64)).collect();
-    let mut order: Vec<usize> = (0..ROWS).collect();
+    let numbered = |i: usize, number: usize| command(code(i), number as u64);
+    let count = size.rows;
+    let mut rows: Vec<Words> = (0..count).map(|i| row(code(i), i as u64)).collect();
+    let mut order: Vec<usize> = (0..count).collect();
     shuffle(1, &mut rows);
     shuffle(2, &mut order);
-    let strange = |i: usize| (i + ROWS) as u64;
-    let pair = |&i: &usize| [command(code(i), i as u64), command(code(i), strange(i))];
-    let commands: Vec<Command> = order.iter().flat_map(pair).collect();
-    assert_eq!(commands.len(), COMMANDS);
+    // Behind the command for a row so many of its code for none, and the rest last.
+    let each = size.commands() / count;
+    let about = |&i: &usize| (0..each).map(move |more| numbered(i, i + more * count));
+    let rest = (each * count..size.commands()).map(|i| numbered(i, i));
+    let commands: Vec<Command> = order.iter().flat_map(about).chain(rest).collect();
     Case {
-        removes: Some(ROWS as u64),
-        ..Case::full(
-            "a",
-            "mixed commands, every second removes a row",
-            &rows,
-            &commands,
-        )
+        removes: Some(count as u64),
+        ..Case::full(letter, what, size, &rows, &commands)
     }
 }
 

@@ -1,4 +1,4 @@
-//! What is measured: full tables of 128 rows, and queues of 256 commands.
+//! What is measured: full tables and full queues, of two sizes.
 
 mod chains;
 mod linux;
@@ -6,6 +6,7 @@ mod mixed;
 mod pages;
 
 use crate::call::Asked;
+use crate::limits;
 use crate::model::run::End;
 use crate::random::Random;
 use crate::rows::Words;
@@ -13,13 +14,38 @@ use crate::rows::Words;
 /// Low and high word.
 pub type Command = (u64, u64);
 
-pub const ROWS: usize = 128;
-pub const COMMANDS: usize = 256;
+/// Rows of a full table, and LOG2SIZE of a full queue.
+#[derive(Clone, Copy)]
+pub struct Size {
+    pub rows: usize,
+    pub log2size: u64,
+}
+
+/// The limits of document 01: the size of the cases of earlier figures, so that
+/// these can be compared.
+const USUAL: Size = Size {
+    rows: 128,
+    log2size: 8,
+};
+/// The limits as they are. What is measured at both shows what growth costs.
+const LARGEST: Size = Size {
+    rows: limits::ROWS as usize,
+    log2size: limits::LOG2SIZE,
+};
+
+impl Size {
+    pub fn commands(self) -> usize {
+        1 << self.log2size
+    }
+
+    /// RD 0, WR at a full queue, without CMDQEN.
+    fn full_off(self) -> u64 {
+        (self.commands() as u64) << 20 | self.log2size << 50
+    }
+}
+
 /// S1P, S2P, ASID16, VMID16.
 pub const ALL_FEATURES: u64 = 15;
-
-/// RD 0, WR 256, LOG2SIZE 8, without CMDQEN.
-const FULL_OFF: u64 = 0x100 << 20 | 8 << 50;
 /// CMDQEN.
 pub const ENABLED: u64 = 1 << 49;
 
@@ -48,6 +74,7 @@ pub enum Work {
 pub struct Case {
     pub letter: &'static str,
     pub what: &'static str,
+    pub size: Size,
     pub kept: Vec<u64>,
     pub work: Work,
     pub per: Per,
@@ -62,15 +89,17 @@ impl Case {
     fn full(
         letter: &'static str,
         what: &'static str,
+        size: Size,
         rows: &[Words],
         commands: &[Command],
     ) -> Case {
         Case {
             letter,
             what,
-            kept: memory(FULL_OFF | ENABLED, rows),
+            size,
+            kept: memory(size, ENABLED, rows),
             work: Work::Runs {
-                queues: vec![bytes(commands)],
+                queues: vec![bytes(size, commands)],
                 features: ALL_FEATURES,
             },
             per: Per::Command,
@@ -89,7 +118,7 @@ impl Case {
     /// How many of what a figure is about the calls make.
     pub fn parts(&self) -> u64 {
         let each = match self.per {
-            Per::Command => COMMANDS,
+            Per::Command => self.size.commands(),
             Per::Call => 1,
         };
         (each * self.calls()) as u64
@@ -105,24 +134,33 @@ impl Case {
 
 pub fn all() -> Vec<Case> {
     vec![
-        mixed::case(),
-        pages::by_address(),
+        mixed::case("a", "mixed commands, every second removes a row", USUAL),
+        pages::by_address("b", "commands by address, none removes a row", USUAL),
         pages::without_scope(),
         linux::case(),
         chains::check(),
         chains::transaction(),
+        mixed::case(
+            "g",
+            "as a at the limits, every fourth removes a row",
+            LARGEST,
+        ),
+        pages::by_address("h", "as b at the limits", LARGEST),
     ]
 }
 
-/// A control word before the rows, which have to fill the table.
-fn memory(control: u64, rows: &[Words]) -> Vec<u64> {
-    assert_eq!(rows.len(), ROWS);
+/// The control word of a full queue, with flags, before the rows, which have to
+/// fill the table.
+fn memory(size: Size, flags: u64, rows: &[Words]) -> Vec<u64> {
+    assert_eq!(rows.len(), size.rows);
     let words = rows.iter().flatten().copied();
-    std::iter::once(control).chain(words).collect()
+    std::iter::once(size.full_off() | flags)
+        .chain(words)
+        .collect()
 }
 
-fn bytes(commands: &[Command]) -> Vec<u8> {
-    assert_eq!(commands.len(), COMMANDS);
+fn bytes(size: Size, commands: &[Command]) -> Vec<u8> {
+    assert_eq!(commands.len(), size.commands());
     let words = commands.iter().flat_map(|&(low, high)| [low, high]);
     words.flat_map(u64::to_le_bytes).collect()
 }

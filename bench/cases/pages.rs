@@ -1,7 +1,7 @@
-//! One guest's pages: 64 rows of stage 1 and 64 of stage 2, none of which a
-//! command removes.
+//! One guest's pages: half the rows are of stage 1 and half of stage 2, and no
+//! command removes any.
 
-use super::{shuffle, Case, Command, COMMANDS, ROWS, STAGE1_PAYLOAD, STAGE2_PAYLOAD};
+use super::{shuffle, Case, Command, Size, STAGE1_PAYLOAD, STAGE2_PAYLOAD, USUAL};
 use crate::random::Random;
 use crate::rows::{Reach, Words, STAGE1, STAGE2};
 
@@ -15,10 +15,10 @@ fn page(random: &mut Random, odd: u64) -> u64 {
     (2 * random.below(1 << 17) + odd) * BLOCK + random.below(512) * 4096
 }
 
-fn rows() -> Vec<Words> {
+fn rows(size: Size) -> Vec<Words> {
     let mut random = Random::new(3);
     let mut rows = Vec::new();
-    for place in 0..ROWS as u64 {
+    for place in 0..size.rows {
         let (kind, payload) = match place % 2 {
             0 => (STAGE1, STAGE1_PAYLOAD),
             _ => (STAGE2, STAGE2_PAYLOAD),
@@ -38,7 +38,7 @@ fn rows() -> Vec<Words> {
 }
 
 /// The scan's worst case: a command's kind and VMID fit half the rows, no address.
-pub fn by_address() -> Case {
+pub fn by_address(letter: &'static str, what: &'static str, size: Size) -> Case {
     let mut random = Random::new(5);
     let mut command = |place: usize| -> Command {
         let low = VMID << 32;
@@ -50,14 +50,9 @@ pub fn by_address() -> Case {
             _ => (low | 0x2A, high),
         }
     };
-    let mut commands: Vec<Command> = (0..COMMANDS).map(&mut command).collect();
+    let mut commands: Vec<Command> = (0..size.commands()).map(&mut command).collect();
     shuffle(6, &mut commands);
-    Case::full(
-        "b",
-        "commands by address, none removes a row",
-        &rows(),
-        &commands,
-    )
+    Case::full(letter, what, size, &rows(size), &commands)
 }
 
 pub fn without_scope() -> Case {
@@ -68,7 +63,13 @@ pub fn without_scope() -> Case {
             _ => (0x46, 0),
         }
     };
-    let mut commands: Vec<Command> = (0..COMMANDS).map(command).collect();
+    let mut commands: Vec<Command> = (0..USUAL.commands()).map(command).collect();
     shuffle(7, &mut commands);
-    Case::full("c", "commands without a scope", &rows(), &commands)
+    Case::full(
+        "c",
+        "commands without a scope",
+        USUAL,
+        &rows(USUAL),
+        &commands,
+    )
 }

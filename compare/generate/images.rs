@@ -72,9 +72,9 @@ pub fn table(random: &mut Random, world: &World, count: usize) -> Vec<Words> {
     rows
 }
 
-fn shuffle(random: &mut Random, rows: &mut [Words]) {
-    for place in (1..rows.len()).rev() {
-        rows.swap(place, random.below(place as u64 + 1) as usize);
+pub fn shuffle<T>(random: &mut Random, items: &mut [T]) {
+    for place in (1..items.len()).rev() {
+        items.swap(place, random.below(place as u64 + 1) as usize);
     }
 }
 

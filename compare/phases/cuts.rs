@@ -1,18 +1,20 @@
 //! Power cuts: a run or a fill stopped after any number of stores and called
 //! again (document 01, One run).
 
+use super::{bytes, waiting};
 use crate::call::{Call, CUT};
 use crate::checker::Checker;
 use crate::generate::commands::{features, queue_with};
-use crate::generate::images::{control, image, queue_for, table, with_rows};
+use crate::generate::images::{control, image, queue_for, shuffle, table, with_rows};
 use crate::generate::random::Random;
-use crate::generate::rows::any_row;
+use crate::generate::rows::{any_row, Reach, STAGE1};
 use crate::generate::world::World;
 use crate::limits;
 use crate::model::control::Control;
 
 pub fn cuts(checker: &mut Checker) {
     full_queues(checker);
+    largest(checker);
     chains(checker);
     fills(checker);
 }
@@ -37,31 +39,27 @@ impl Work {
 /// A rarity at which a whole queue is legal.
 const NEVER: u64 = u64::MAX;
 
-/// Queue and table that are cut at every store: the largest, as long as that
-/// takes no minutes. Larger ones are cut at their edges (limits/queues.rs).
-const LOG2SIZE: u64 = if limits::LOG2SIZE < 8 {
-    limits::LOG2SIZE
-} else {
-    8
-};
-const ROWS: u64 = if limits::ROWS < 128 {
-    limits::ROWS
-} else {
-    128
-};
+/// Queue and table over which a run is cut at every one of its stores: a
+/// sixteenth of the largest queue, over half as many rows. What such cuts cost
+/// grows with the stores times the rows times the commands.
+const LOG2SIZE: u64 = limits::LOG2SIZE - 4;
+const ROWS: u64 = (1 << LOG2SIZE) / 2;
+
+/// At how many places a run over the largest queue and table is cut.
+const PLACES: u64 = 1_000;
 
 /// A full queue over a full table, starting anywhere in the ring; an illegal
 /// command comes about once in `rarity`.
-fn full(random: &mut Random, rarity: u64) -> Work {
+fn full(random: &mut Random, log2size: u64, rows: u64, rarity: u64) -> Work {
     let world = World::new(random);
-    let any = control(random, LOG2SIZE);
+    let any = control(random, log2size);
     let full = Control {
         wr: (any.rd + any.slots()) % any.ring(),
         gerrorn: any.gerror,
         enabled: true,
         ..any
     };
-    let rows: Vec<_> = (0..ROWS).map(|_| any_row(random, &world)).collect();
+    let rows: Vec<_> = (0..rows).map(|_| any_row(random, &world)).collect();
     let features = if rarity == NEVER {
         0b1111
     } else {
@@ -79,13 +77,14 @@ fn full_queues(checker: &mut Checker) {
     let mut random = checker.phase("a full queue cut at every store");
     let some = [500, 500, 200, 200, 100, 100, 50, 20];
     for rarity in [NEVER; 4].into_iter().chain(some) {
-        let work = full(&mut random, rarity);
+        let work = full(&mut random, LOG2SIZE, ROWS, rarity);
         every_cut(checker, &work);
     }
 }
 
 const SINGLE: &str = "one store more isn't one word more";
 const SAME: &str = "a cut run called again isn't the uncut run";
+const SPENT: &str = "a run ended before its stores were made";
 
 /// The run cut after each number of stores, and then called to its end.
 fn every_cut(checker: &mut Checker, work: &Work) {
@@ -118,6 +117,60 @@ fn changed(before: &[u64], after: &[u64]) -> u64 {
 fn add(sums: &mut [u64; 8], answer: [u64; 8]) {
     sums[0] = answer[0];
     (1..5).for_each(|place| sums[place] += answer[place]);
+}
+
+/// The largest queue over the largest table, cut at places all along the run:
+/// commands and rows by chance, and as many stores as a run can make.
+fn largest(checker: &mut Checker) {
+    let mut random = checker.phase("the largest queue and table cut at a thousand places");
+    let any = full(&mut random, limits::LOG2SIZE, limits::ROWS, NEVER);
+    all_along(checker, &any);
+    let spread = one_row_each(&mut random);
+    all_along(checker, &spread);
+}
+
+/// A row for each VMID, and one command for each of them, anywhere among those
+/// that remove nothing.
+fn one_row_each(random: &mut Random) -> Work {
+    let reach = Reach {
+        kind: STAGE1,
+        vmid: 0,
+        asid: 0,
+        global: false,
+        span: 12,
+        page: 0,
+    };
+    let of = |vmid| Reach { vmid, ..reach }.table();
+    let rows: Vec<_> = (0..limits::ROWS).map(of).collect();
+    let removing = (0..limits::ROWS).map(|vmid| (0x10 | vmid << 32, 0));
+    let mut commands: Vec<_> = removing.collect();
+    commands.resize(limits::SLOTS as usize, (0x1046, 0));
+    shuffle(random, &mut commands);
+    Work {
+        kept: with_rows(waiting(limits::LOG2SIZE, limits::SLOTS), &rows),
+        queue: bytes(&commands),
+        features: 0b1111,
+    }
+}
+
+/// One run cut at so many places, each call going on where the last was cut.
+fn all_along(checker: &mut Checker, work: &Work) {
+    let mut whole = work.kept.clone();
+    let call = work.run(u64::MAX);
+    let uncut = checker.call(&mut whole, call);
+    let stores = uncut.answer[2];
+    let mut kept = work.kept.clone();
+    let mut sums = [CUT, 0, 0, 0, 0, 0, 0, 0];
+    for place in 1..=PLACES {
+        let allowance = stores * place / (PLACES + 1) - sums[2];
+        let reply = checker.call(&mut kept, work.run(allowance));
+        add(&mut sums, reply.answer);
+        checker.insist(sums[0] == CUT, SPENT, &work.kept, call, (reply, &kept));
+    }
+    let rest = checker.call(&mut kept, call);
+    add(&mut sums, rest.answer);
+    let equal = kept == whole && sums == uncut.answer;
+    checker.insist(equal, SAME, &work.kept, call, (uncut, &kept));
 }
 
 /// Runs cut again and again, each time after a few stores.

@@ -71,9 +71,9 @@ fieldsOf w =
       log2size = log2size w;
     }
 
--- the largest LOG2SIZE
+-- the largest LOG2SIZE (document 02, T-06)
 abbrev pub maxLog2 : ℕ
-maxLog2 = 8
+maxLog2 = 12
 
 -- an error is active
 unfoldable pub active : ℕ → Bool

@@ -8,7 +8,7 @@ ghost use Prim.Native.Nat.{_≤_, _<_};
 ghost use Rattle.control.specs.Control.{rd, wr, err, gerror, gerrorn, cmdqen, log2size, fieldsOf, active, wellFormed, standing, slot};
 
 // The largest LOG2SIZE.
-pub const MAX_LOG2: u64 = 8;
+pub const MAX_LOG2: u64 = 12;
 
 pub fn rd_of(w: u64) -> u64
     ensures { λ r. ⌜ r ≡ rd w ⌝ }

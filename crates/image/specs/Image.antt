@@ -18,9 +18,9 @@ use Rattle.image.specs.declared.Refusal.the-variants.{BadLength, BadCont
 use Rattle.image.specs.declared.Checked.{Checked}
 use Rattle.image.specs.declared.Checked.the-variants.{Accepted, Refused}
 
--- the most rows
+-- the most rows (document 02, T-06)
 abbrev pub maxRows : ℕ
-maxRows = 128
+maxRows = 1000
 
 abbrev pub rowsIn : List ℕ → ℕ
 rowsIn m = length m / 4

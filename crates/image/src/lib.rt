@@ -8,7 +8,7 @@ ghost use Rattle.words.specs.Search.{lowest};
 ghost use Rattle.image.specs.Image.{rowAt, isBad, isUsed, check, usedRows};
 
 // The most rows.
-pub const MAX_ROWS: usize = 128;
+pub const MAX_ROWS: usize = 1000;
 
 // Why an image is refused: its length, its control word, or its lowest ill-formed row.
 pub enum Refusal {
