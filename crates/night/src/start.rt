@@ -72,7 +72,7 @@ fn waiting(queue: &[u8; 16]) {
     );
     match commands::decode(commands::features_of(scene::FEATURES), low, high) {
         Decoded::Legal(c) => legal(c),
-        Decoded::Illegal => say(b"illegal\n"),
+        Decoded::Illegal(_) => say(b"illegal\n"),
     }
 }
 
