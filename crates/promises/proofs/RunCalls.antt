@@ -100,18 +100,17 @@ module _ (f : Features) (queue : List ℕ) (n : ℕ) where
           let word : controlOf m′ ≡ control-stores.raised w = ap controlOf stored ∙ getD-set-same m 0 (control-stores.raised w) 0 (omega (arith, a .size .words)) in
           let slot : control.slot (controlOf m′) ≡ control.slot w = ap control.slot word ∙ raised-slot w in
           let at-rd : decodeAt f queue (control.slot (controlOf m′)) ≡ Illegal why = ap (λ (s : ℕ). decodeAt f queue s) slot ∙ illegal in
-          record {
-            is-raised = record {
-              enabled = λ z. open-enabled w on (sym (raised-keeps w control.cmdqenBits tt) ∙ ap control.cmdqen (sym word) ∙ z);
-              in-error = ap control.active word ∙ raised-active w (open-quiet w on);
-              code = ap control.err word ∙ raised-err w;
-              illegal = ap isIllegal at-rd;
-            };
-            tells = record {
-              reason = at-rd ∙ ap (λ (t : Raising). Illegal (t .why)) (sym same);
-              slot = ap (λ (t : Raising). t .slot) same ∙ sym slot;
-            };
-          }
+          let left : IsRaised f queue m′ = record {
+            enabled = λ z. open-enabled w on (sym (raised-keeps w control.cmdqenBits tt) ∙ ap control.cmdqen (sym word) ∙ z);
+            in-error = ap control.active word ∙ raised-active w (open-quiet w on);
+            code = ap control.err word ∙ raised-err w;
+            illegal = ap isIllegal at-rd;
+          } in
+          let says : Tells f queue (controlOf m′) told = record {
+            reason = at-rd ∙ ap (λ (t : Raising). Illegal (t .why)) (sym same);
+            slot = ap (λ (t : Raising). t .slot) same ∙ sym slot;
+          } in
+          record { is-raised = left; tells = says }
 
   -- where a run ends Raised, at every allowance
   pub raised-run : (told : Raising) (k : ℕ) (m : List ℕ) → Accepts m n → run f queue k m .ran .end ≡ Raised told → Left told (run f queue k m .memory)

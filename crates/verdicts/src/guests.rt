@@ -117,7 +117,12 @@ fn told(counts: &[u64; 1280]) {
 }
 
 fn told_one(c: u64, counts: [u64; 5]) {
-    if (counts[0] != 0) | (counts[1] != 0) | (counts[2] != 0) | (counts[3] != 0) | (counts[4] != 0) {
+    if (counts[0] != 0)
+        | (counts[1] != 0)
+        | (counts[2] != 0)
+        | (counts[3] != 0)
+        | (counts[4] != 0)
+    {
         say(b"  ");
         code(c);
         say(b": legal ");
