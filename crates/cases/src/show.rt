@@ -29,7 +29,7 @@ fn run(w: [u64; 8]) {
         b"{Off|Held|Empty|Raised|Cut}, consumed #, stores #, removed #, syncs #",
         w,
     );
-    if w[5] != 0 {
+    if (w[5] != 0) | (w[6] != 0) {
         told(
             b", {|unknown code|feature absent|Reserved bit|bad parameter} in slot #",
             [w[5], w[6], 0, 0, 0, 0, 0, 0],

@@ -1,6 +1,6 @@
 -- What decoding answers after each of its four tests, from what the functions that make them say.
 -- Assumes nothing.
-use mathlib.Core.Path.{_≡_, refl, sym, ap, _∙_}
+use mathlib.Core.Path.{_≡_, refl, ap, _∙_}
 use mathlib.Core.Bool.{Bool, true, false, not}
 use Prim.Native.Nat.{ℕ, _≤_, _<_}
 use borrow.Author.Tests.{not-true, not-false, lt-ltb, le-ltb}
@@ -9,7 +9,6 @@ use Rattle.words.specs.Search.{placeOf}
 use Rattle.commands.specs.declared.Features.{Features}
 use Rattle.commands.specs.declared.Command.{Command}
 use Rattle.commands.specs.declared.Reason.the-variants.{UnknownCode, FeatureAbsent, ReservedBit, BadParameter}
-use Rattle.commands.specs.declared.Decoded.{Decoded}
 use Rattle.commands.specs.declared.Decoded.the-variants.{Legal, Illegal}
 use Rattle.commands.specs.Formats.{codes, howMany}
 use Rattle.commands.specs.Decoding.{codeOf, placeIn, knownCode, featurePresent, clean, parameterGood, commandOf, first, decode}

@@ -1,6 +1,6 @@
 -- Document 02, T-09: decoding tells a reason exactly where its test is the first that fails, and none exactly where a command is legal.
 -- Assumes nothing.
-use mathlib.Core.Path.{_≡_, refl, sym, _∙_}
+use mathlib.Core.Path.{_≡_, refl}
 use mathlib.Core.Bool.{Bool, true, false, not, _&&_}
 use Prim.Native.Nat.{ℕ, _<_}
 use lib.Dec.{eqb}
@@ -63,6 +63,13 @@ legal-else true true false e x = refl
 legal-else true true true false x = refl
 legal-else true true true true x = refl
 
+none-legal : (a b d e : Bool) (x : Command) → none (four a b d e) ≡ tellsLegal (first (four a b d e) (Legal x))
+none-legal false b d e x = refl
+none-legal true false d e x = refl
+none-legal true true false e x = refl
+none-legal true true true false x = refl
+none-legal true true true true x = refl
+
 module _ (f : Features) (lo hi : ℕ) where
   abbrev c : ℕ
   c = joined lo hi
@@ -98,6 +105,10 @@ module _ (f : Features) (lo hi : ℕ) where
   pub legal-otherwise : tellsLegal (decode f lo hi) ≡ (known && present && spotless && sound)
   unfolding decode
   legal-otherwise = legal-else known present spotless sound (commandOf (codeOf c) c)
+
+  pub is-legal : isLegal f c ≡ tellsLegal (decode f lo hi)
+  unfolding isLegal decode
+  is-legal = none-legal known present spotless sound (commandOf (codeOf c) c)
 
   -- a legal command is decoded as what its code says
   pub legal : isLegal f c ≡ true → decode f lo hi ≡ Legal (commandOf (codeOf c) c)

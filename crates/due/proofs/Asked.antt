@@ -15,10 +15,9 @@ use Rattle.commands.specs.declared.Command.{Command}
 use Rattle.commands.specs.declared.Reason.{Reason}
 use Rattle.commands.specs.declared.Decoded.{Decoded}
 use Rattle.commands.specs.declared.Decoded.the-variants.{Legal, Illegal}
-use Rattle.commands.specs.Decoding.{syncsOf}
 use Rattle.image.specs.Image.{rowsIn, controlOf}
 use Rattle.due.specs.declared.Stepped.the-variants.{Removed, Consumed, DidRaise}
-use Rattle.due.specs.Due.{What, Remove, Consume, Raise, Due, Rests, Stores, scopedAt, scan, byScan, afterCommand, dueFor, storeOf, Ready, Made}
+use Rattle.due.specs.Due.{Remove, Stores, scopedAt, scan, byScan, afterCommand, dueFor, storeOf, Ready, Made}
 
 module _ (f : Features) (c : Command) (from : ℕ) (m : List ℕ) (r : Ready f (Legal c) from m) where
   by-scan : (x : Found) → x ≡ scan f c m (rowsIn m - from) from → dueFor f (Legal c) m ≡ byScan c (controlOf m) x

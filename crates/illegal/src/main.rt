@@ -10,17 +10,14 @@ ghost use Prim.Native.Nat.{_+_, _*_, _≤_, _<_};
 ghost use lib.ListN.{length};
 
 fn main() {
-    let f = commands::features_of(digit(text::next()));
+    let f = commands::features_of(text::digit(text::next()));
     text::next();
     let mut input = io::large_buffer();
     let n = io::read_full(STDIN_FILENO, &mut input);
     queue(&input[..n], f);
-}
-
-// The number of a hexadecimal digit in small letters.
-fn digit(b: u8) -> u64 {
-    let n = b as u64;
-    if n < 97 { n % 16 } else { (n - 87) % 16 }
+    if n % 16 != 0 {
+        say(b"the last command is not whole\n");
+    }
 }
 
 fn queue(bytes: &[u8], f: Features) {
@@ -49,7 +46,7 @@ fn command(bytes: &[u8], f: Features, slot: usize)
 
 fn reason(why: Reason, f: Features, lo: u64, hi: u64) {
     match why {
-        Reason::UnknownCode => say(b"no command has this code"),
+        Reason::UnknownCode => say(b"this unit knows no such code"),
         Reason::FeatureAbsent => say(b"the box does not have the feature that it needs"),
         Reason::ReservedBit => {
             say(b"bits set that have to be 0:");

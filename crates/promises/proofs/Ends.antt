@@ -21,7 +21,6 @@ use Rattle.commands.specs.declared.Reason.{Reason}
 use Rattle.image.specs.Image.{controlOf}
 use Rattle.image.proofs.Checks.{Accepts}
 use Rattle.due.specs.Due.{Remove, Consume, Raise, raisingAt}
-use Rattle.due.specs.declared.Raising.{Raising}
 use Rattle.runs.specs.declared.End.{End}
 use Rattle.runs.specs.declared.End.the-variants.{Off, Held, Empty, Raised, Cut}
 use Rattle.runs.specs.Running.{Out, Next, rests, stores, last, next, runBy, endOf, dueIn, run}
