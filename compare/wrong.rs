@@ -46,20 +46,8 @@ const STATE: usize = 6;
 
 /// Every wrong unit.
 pub fn all() -> Vec<Wrong> {
-    let mut all = Vec::new();
+    let mut all = parameters();
     let mut add = |name: String, fault| all.push(Wrong { name, fault });
-    for (call, numbers) in NUMBERS.iter().enumerate() {
-        for (place, (name, _)) in numbers.iter().enumerate() {
-            for (other, (second, _)) in numbers.iter().enumerate().skip(place + 1) {
-                let what = format!("{}: {name} and {second} exchanged", NAMES[call]);
-                add(what, Fault::Exchanged(call, place, other));
-            }
-            let what = format!("{}: the top bit of {name}", NAMES[call]);
-            let unread = matches!(*name, "features" | "how");
-            let fault = if unread { Fault::Shy } else { Fault::Narrow };
-            add(what, fault(call, place));
-        }
-    }
     for (call, number, word, limit, what) in [
         (RUN, 0, 1, SLOTS, "commands consumed"),
         (RUN, 0, 2, SLOTS + ROWS, "stores"),
@@ -83,6 +71,25 @@ pub fn all() -> Vec<Wrong> {
     add("a queue's length of 16 bits".into(), Fault::Wrapped);
     for (name, fault) in reasons::ALL {
         add(name.into(), Fault::Mistold(fault));
+    }
+    all
+}
+
+/// Those that take a number in another's place, or not whole.
+fn parameters() -> Vec<Wrong> {
+    let mut all = Vec::new();
+    let mut add = |name: String, fault| all.push(Wrong { name, fault });
+    for (call, numbers) in NUMBERS.iter().enumerate() {
+        for (place, (name, _)) in numbers.iter().enumerate() {
+            for (other, (second, _)) in numbers.iter().enumerate().skip(place + 1) {
+                let what = format!("{}: {name} and {second} exchanged", NAMES[call]);
+                add(what, Fault::Exchanged(call, place, other));
+            }
+            let what = format!("{}: the top bit of {name}", NAMES[call]);
+            let unread = matches!(*name, "features" | "how");
+            let fault = if unread { Fault::Shy } else { Fault::Narrow };
+            add(what, fault(call, place));
+        }
     }
     all
 }
