@@ -37,8 +37,18 @@ pub fn ran(report: Report) -> [u64; 8] {
         End::Raised => RAISED,
         End::Cut => CUT,
     };
-    let counts = [report.consumed, report.stores, report.removed, report.syncs];
-    answer(&[end, counts[0], counts[1], counts[2], counts[3]])
+    let (reason, slot) = report
+        .raised
+        .map_or((0, 0), |raised| (raised.reason.number(), raised.slot));
+    answer(&[
+        end,
+        report.consumed,
+        report.stores,
+        report.removed,
+        report.syncs,
+        reason,
+        slot,
+    ])
 }
 
 pub fn filled(filled: Filled) -> [u64; 8] {

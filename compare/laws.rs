@@ -2,6 +2,7 @@
 //! before a law is asked, so that a broken one is mostly the model's fault.
 
 use crate::call::{Call, Reply, CUT, RAISED};
+use crate::model::control::Control;
 use crate::model::image::used_rows;
 
 /// The law that a call broke, if any.
@@ -32,6 +33,19 @@ fn run(before: &[u64], allowance: u64, reply: Reply, after: &[u64]) -> Option<&'
     if used_rows(before) != used_rows(after) + removed {
         return Some("used rows before aren't used rows after and rows removed");
     }
-    let kept = stores <= allowance && (end != CUT || stores == allowance);
-    (!kept).then_some("more stores than allowed, or Cut with some left")
+    if stores > allowance || (end == CUT && stores != allowance) {
+        return Some("more stores than allowed, or Cut with some left");
+    }
+    let law = "reason and slot aren't those of the command that raised, if one did";
+    (!carried(reply, after)).then_some(law)
+}
+
+/// Document 02, T-09: reason and slot come with Raised, and with nothing else.
+fn carried(reply: Reply, after: &[u64]) -> bool {
+    let [end, _, _, _, _, reason, slot, _] = reply.answer;
+    if end == RAISED {
+        (1..=4).contains(&reason) && slot == Control::fields(after[0]).slot()
+    } else {
+        (reason, slot) == (0, 0)
+    }
 }

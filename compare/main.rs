@@ -1,7 +1,8 @@
-//! Compares the proved unit with a second implementation of document 01.
+//! Compares the proved unit with a second implementation of document 01 and of
+//! what document 02 adds.
 //!
-//! `model/` is written from the paper alone, by the paper's rules and without
-//! the unit's code. `generate/` makes inputs whose rows and commands collide
+//! `model/` is written from the papers alone, by their rules and without the
+//! unit's code. `generate/` makes inputs whose rows and commands collide
 //! often, `phases/` decides which calls are made, and every call is made on both
 //! sides: the returned number, the eight answer words and each word of the kept
 //! memory have to be the same. At the end a table says what was compared.
@@ -12,9 +13,9 @@
 //!
 //! Run: `compare.out [seed]`, the seed in decimal or as 0x... in hexadecimal;
 //! the same seed repeats the same calls. It exits 0 if all calls agreed and each
-//! kind of call, end, refusal and outcome occurred; 1 at the first difference,
-//! after printing what is needed to repeat it, or if the unit doesn't return;
-//! 2 if a kind never occurred or the arguments make no sense.
+//! kind of call, end, refusal, outcome and reason occurred; 1 at the first
+//! difference, after printing what is needed to repeat it, or if the unit doesn't
+//! return; 2 if a kind never occurred or the arguments make no sense.
 //!
 //! `compare.out wrong NAME` compares a wrong unit (wrong.rs) instead and has to
 //! exit 1; `compare.out wrong` does so for all of them and exits 0 if each was
@@ -76,7 +77,9 @@ fn compare(seed: u64, wrong: Option<Wrong>) -> ExitCode {
     watchdog::start(seed);
     let mut checker = Checker::new(seed, wrong);
     phases::cases::cases(&mut checker);
+    phases::reasons::cases::cases(&mut checker);
     phases::limits::limits(&mut checker);
+    phases::reasons::reasons(&mut checker);
     phases::commands::sweeps(&mut checker);
     phases::formats::sweeps(&mut checker);
     phases::controls::sweeps(&mut checker);

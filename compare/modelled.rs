@@ -3,10 +3,11 @@
 use crate::answers::{answer, filled, ran, reply, standing, transaction, translated};
 use crate::call::{Asked, Call, Reply};
 use crate::model::command::Features;
+use crate::model::control::Control;
 use crate::model::control_calls::{acknowledge, doorbell, enable};
 use crate::model::fill::fill;
 use crate::model::refusal::Refusal;
-use crate::model::run::run;
+use crate::model::run::{run, Report};
 use crate::model::state::state;
 use crate::model::transaction::{stream_row, translate, Outcome};
 use crate::tally::Tally;
@@ -18,10 +19,7 @@ pub fn perform(call: Call, kept: &mut [u64], tally: &mut Tally) -> Reply {
             queue,
             features,
             allowance,
-        } => {
-            let watch = |code, fate| tally.count_command(code, fate);
-            run(kept, queue, Features::from_bits(features), allowance, watch).map(ran)
-        }
+        } => ended(kept, queue, features, allowance, tally).map(ran),
         Call::Fill {
             row,
             words,
@@ -36,6 +34,21 @@ pub fn perform(call: Call, kept: &mut [u64], tally: &mut Tally) -> Reply {
     let reply = reply(result);
     tally.count(&call, &reply);
     reply
+}
+
+fn ended(
+    kept: &mut [u64],
+    queue: &[u8],
+    features: u64,
+    allowance: u64,
+    tally: &mut Tally,
+) -> Result<Report, Refusal> {
+    let watch = |code, fate| tally.commands.count(code, fate);
+    let report = run(kept, queue, Features::from_bits(features), allowance, watch)?;
+    if report.raised.is_some() {
+        tally.commands.count_raised(Control::fields(kept[0]));
+    }
+    Ok(report)
 }
 
 fn outcome(kept: &[u64], asked: Asked, tally: &mut Tally) -> Result<Outcome, Refusal> {

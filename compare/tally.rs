@@ -1,11 +1,10 @@
 //! What was compared: a kind that never occurred has to be seen.
 
-use crate::call::{Call, Reply, NAMES};
-use crate::generate::commands::CODES;
-use crate::model::run::Fate;
+mod commands;
 
-/// The place for all codes that aren't commands, after those that are.
-const OTHER: usize = CODES.len();
+use crate::call::{Call, Reply, NAMES};
+use commands::Commands;
+
 const RUN_ENDS: [&str; 5] = ["Off", "Held", "Empty", "Raised", "Cut"];
 const FILL_ENDS: [&str; 2] = ["Filled", "Cut"];
 const OUTCOMES: [&str; 6] = [
@@ -26,10 +25,7 @@ pub struct Tally {
     run_ends: [u64; 5],
     fill_ends: [u64; 2],
     outcomes: [u64; 6],
-    consumed: [u64; OTHER + 1],
-    removing: [u64; OTHER + 1],
-    too_wide: [u64; OTHER + 1],
-    raised: [u64; OTHER + 1],
+    pub commands: Commands,
     configs: [u64; 8],
     config_hits: [u64; 8],
 }
@@ -45,23 +41,6 @@ impl Tally {
             Call::Run { .. } => self.run_ends[first] += 1,
             Call::Fill { .. } => self.fill_ends[first] += 1,
             Call::Translate(_) => self.outcomes[first] += 1,
-            _ => (),
-        }
-    }
-
-    pub fn count_command(&mut self, code: u8, fate: Fate) {
-        let place = CODES
-            .iter()
-            .position(|&known| known == u64::from(code))
-            .unwrap_or(OTHER);
-        if fate == Fate::Raised {
-            self.raised[place] += 1;
-            return;
-        }
-        self.consumed[place] += 1;
-        match fate {
-            Fate::TooWide => self.too_wide[place] += 1,
-            Fate::Removed(rows) if rows > 0 => self.removing[place] += 1,
             _ => (),
         }
     }
@@ -87,7 +66,7 @@ impl Tally {
             }
         }
         self.print_configs(&mut table);
-        self.print_commands(&mut table);
+        self.commands.print(&mut table);
         table.missing
     }
 
@@ -116,28 +95,6 @@ impl Tally {
             let found = table.cell(self.configs[config], true);
             let hits = table.cell(self.config_hits[config], config != 0);
             println!("  {config:<14}{found}{hits}");
-        }
-    }
-
-    fn print_commands(&self, table: &mut Table) {
-        let heads = ["legal", "removing", "too wide", "illegal"];
-        print!("\n  {:<14}", "Command");
-        heads.iter().for_each(|head| print!("{head:>9}"));
-        println!();
-        for place in 0..=OTHER {
-            let code = CODES.get(place).copied().unwrap_or(0);
-            let known = place < OTHER;
-            let name = if known {
-                format!("{code:02X}")
-            } else {
-                "other".into()
-            };
-            let removes = known && !matches!(code, 0x01 | 0x02 | 0x46);
-            let widths = matches!(code, 0x10..=0x13 | 0x28 | 0x2A);
-            print!("  {name:<14}{}", table.cell(self.consumed[place], known));
-            print!("{}", table.cell(self.removing[place], removes));
-            print!("{}", table.cell(self.too_wide[place], widths));
-            println!("{}", table.cell(self.raised[place], true));
         }
     }
 }

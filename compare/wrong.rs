@@ -1,6 +1,8 @@
 //! Wrong units: the unit with one fault put around it. The comparison has to
 //! catch each of them, and the gate sees to it.
 
+mod reasons;
+
 use crate::call::{Call, NAMES, NUMBERS};
 use crate::generate::random::Random;
 use crate::lent::Lent;
@@ -29,6 +31,8 @@ enum Fault {
     Read(u64, u64),
     /// The queue's length is taken modulo 2^16, which the largest one has.
     Wrapped,
+    /// A run tells another reason or slot.
+    Mistold(reasons::Fault),
 }
 
 pub struct Wrong {
@@ -42,25 +46,14 @@ const STATE: usize = 6;
 
 /// Every wrong unit.
 pub fn all() -> Vec<Wrong> {
-    let mut all = Vec::new();
+    let mut all = parameters();
     let mut add = |name: String, fault| all.push(Wrong { name, fault });
-    for (call, numbers) in NUMBERS.iter().enumerate() {
-        for (place, (name, _)) in numbers.iter().enumerate() {
-            for (other, (second, _)) in numbers.iter().enumerate().skip(place + 1) {
-                let what = format!("{}: {name} and {second} exchanged", NAMES[call]);
-                add(what, Fault::Exchanged(call, place, other));
-            }
-            let what = format!("{}: the top bit of {name}", NAMES[call]);
-            let unread = matches!(*name, "features" | "how");
-            let fault = if unread { Fault::Shy } else { Fault::Narrow };
-            add(what, fault(call, place));
-        }
-    }
     for (call, number, word, limit, what) in [
         (RUN, 0, 1, SLOTS, "commands consumed"),
         (RUN, 0, 2, SLOTS + ROWS, "stores"),
         (RUN, 0, 3, ROWS, "rows removed"),
         (RUN, 0, 4, SLOTS, "CMD_SYNCs"),
+        (RUN, 0, 6, SLOTS - 1, "the slot"),
         (STATE, 0, 5, ROWS, "used rows"),
         (STATE, 3, 0, ROWS - 1, "the row that is refused"),
     ] {
@@ -76,6 +69,28 @@ pub fn all() -> Vec<Wrong> {
     add("04: Range of four bits".into(), Fault::Read(0x04, 1 << 4));
     add("03: Leaf not read".into(), Fault::Read(0x03, 1));
     add("a queue's length of 16 bits".into(), Fault::Wrapped);
+    for (name, fault) in reasons::ALL {
+        add(name.into(), Fault::Mistold(fault));
+    }
+    all
+}
+
+/// Those that take a number in another's place, or not whole.
+fn parameters() -> Vec<Wrong> {
+    let mut all = Vec::new();
+    let mut add = |name: String, fault| all.push(Wrong { name, fault });
+    for (call, numbers) in NUMBERS.iter().enumerate() {
+        for (place, (name, _)) in numbers.iter().enumerate() {
+            for (other, (second, _)) in numbers.iter().enumerate().skip(place + 1) {
+                let what = format!("{}: {name} and {second} exchanged", NAMES[call]);
+                add(what, Fault::Exchanged(call, place, other));
+            }
+            let what = format!("{}: the top bit of {name}", NAMES[call]);
+            let unread = matches!(*name, "features" | "how");
+            let fault = if unread { Fault::Shy } else { Fault::Narrow };
+            add(what, fault(call, place));
+        }
+    }
     all
 }
 
@@ -163,6 +178,10 @@ impl Wrong {
         let last = words(ROWS - 1);
         let row = answer.inner()[0];
         match self.fault {
+            Fault::Mistold(fault) if number == 0 => {
+                let controls = (before[0], kept.inner()[0]);
+                fault.mistell(call, controls, answer.inner_mut());
+            }
             Fault::Short(of, told, word, limit) if of == call.index() && told == number => {
                 let short = answer.inner()[word].min(limit - 1);
                 answer.inner_mut()[word] = short;

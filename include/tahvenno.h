@@ -200,6 +200,14 @@ enum {
 /* How a run ends, in answer[0]. */
 enum { TAHVENNO_OFF, TAHVENNO_HELD, TAHVENNO_EMPTY, TAHVENNO_RAISED, TAHVENNO_CUT };
 
+/* Why a command is illegal, in answer[5] of a run that ends Raised: the first that applies, in this order. */
+enum {
+    TAHVENNO_UNKNOWN_CODE = 1,
+    TAHVENNO_FEATURE_ABSENT,
+    TAHVENNO_RESERVED_BIT,
+    TAHVENNO_BAD_PARAMETER
+};
+
 /* How a fill ends, in answer[0]. */
 enum { TAHVENNO_FILLED, TAHVENNO_FILL_CUT };
 
@@ -219,7 +227,8 @@ enum {
 };
 
 /* Carries out the commands that wait. answer: the end, commands consumed, stores made, rows removed, and consumed CMD_SYNCs
- * that ask for an interrupt (CS 1). */
+ * that ask for an interrupt (CS 1); if it ends Raised also why the command is illegal, and its slot (RD without the wrap bit).
+ * Neither is kept: a run that is called again ends Held and tells no reason. */
 uint64_t tahvenno_run(uint64_t *kept, size_t words, const uint8_t *queue, size_t bytes, uint64_t features,
                       uint64_t allowance, uint64_t answer[8]);
 

@@ -58,7 +58,7 @@ pub fn usual(random: &mut Random, world: &World, features: u64) -> Command {
     for _ in 0..6 {
         let code = random.pick(&USUAL);
         command = of_code(random, world, code);
-        if decode(command.0, command.1, Features::from_bits(features)).is_some() {
+        if decode(command.0, command.1, Features::from_bits(features)).is_ok() {
             break;
         }
     }

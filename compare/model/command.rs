@@ -1,6 +1,7 @@
-//! Commands: which are legal, and what a legal one does (document 01, Commands
-//! and their scopes).
+//! Commands: which are legal, what a legal one does (document 01, Commands and
+//! their scopes), and why another is not (document 02, T-09).
 
+use super::reason::Reason;
 use super::scope::{Page, Scope};
 use super::words::{bit, part};
 
@@ -90,25 +91,33 @@ fn too_wide(low: u64, names: &[Bits], features: Features) -> bool {
         || (names.contains(&VMID) && !features.vmid16 && part(low, 47, 40) != 0)
 }
 
-/// The effect of a legal command; None if it's illegal.
-pub fn decode(low: u64, high: u64, features: Features) -> Option<Effect> {
+/// CS 3 of CMD_SYNC, the only value of a named part that is not allowed.
+fn bad_parameter(code: u64, low: u64) -> bool {
+    code == 0x46 && part(low, 13, 12) == 3
+}
+
+/// The effect of a legal command, or the first reason why it's illegal.
+pub fn decode(low: u64, high: u64, features: Features) -> Result<Effect, Reason> {
     let code = part(low, 7, 0);
-    let names = named(code)?;
-    if reserved_bit_set(low, high, names, features) || !supported(code, features) {
-        return None;
+    let names = named(code).ok_or(Reason::UnknownCode)?;
+    if !supported(code, features) {
+        return Err(Reason::FeatureAbsent);
+    }
+    if reserved_bit_set(low, high, names, features) {
+        return Err(Reason::ReservedBit);
+    }
+    if bad_parameter(code, low) {
+        return Err(Reason::BadParameter);
     }
     if too_wide(low, names, features) {
-        return Some(Effect::TooWide);
+        return Ok(Effect::TooWide);
     }
-    match code {
-        0x01 | 0x02 => Some(Effect::Nothing),
-        0x46 => match part(low, 13, 12) {
-            3 => None,
-            1 => Some(Effect::Signal),
-            _ => Some(Effect::Nothing),
-        },
-        _ => Some(Effect::Remove(scope(code, low, high))),
-    }
+    Ok(match code {
+        0x01 | 0x02 => Effect::Nothing,
+        0x46 if part(low, 13, 12) == 1 => Effect::Signal,
+        0x46 => Effect::Nothing,
+        _ => Effect::Remove(scope(code, low, high)),
+    })
 }
 
 /// The rows that a legal removing command is after.

@@ -1,6 +1,7 @@
-//! Document 01 once more, written from the paper alone, on plain words and slices.
+//! Document 01 and what document 02 adds to it, once more, written from the
+//! papers alone, on plain words and slices.
 //!
-//! One file for each part of the paper. Nothing here looks at the unit under
+//! One file for each part of a paper. Nothing here looks at the unit under
 //! test, and nothing here is clever: a reader should be able to hold each
 //! function beside the sentence that it cites.
 
@@ -10,6 +11,7 @@ pub mod control;
 pub mod control_calls;
 pub mod fill;
 pub mod image;
+pub mod reason;
 pub mod refusal;
 pub mod row;
 pub mod run;

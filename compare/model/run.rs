@@ -1,8 +1,9 @@
-//! One run over the queue (document 01, One run).
+//! One run over the queue (document 01, One run; document 02, T-09).
 
 use super::command::{decode, Effect, Features};
 use super::control::Control;
 use super::image;
+use super::reason::{Raised, Reason};
 use super::refusal::Refusal;
 use super::row::Row;
 use super::scope::Scope;
@@ -16,10 +17,11 @@ pub enum End {
     Cut,
 }
 
-/// How a run ended, and its four counts.
+/// How a run ended, what it carries if it raised, and its four counts.
 #[derive(Clone, Copy, Debug, PartialEq, Eq)]
 pub struct Report {
     pub end: End,
+    pub raised: Option<Raised>,
     pub consumed: u64,
     pub stores: u64,
     pub removed: u64,
@@ -32,7 +34,7 @@ pub enum Fate {
     /// Consumed, after this call removed so many rows for it.
     Removed(u64),
     TooWide,
-    Raised,
+    Raised(Raised),
 }
 
 /// The kept memory together with the stores that may still be made in it.
@@ -87,11 +89,14 @@ impl Writer<'_> {
     }
 
     /// Stops at an illegal command, which stays at RD.
-    fn raise(&mut self, mut control: Control) -> Result<Fate, End> {
+    fn raise(&mut self, mut control: Control, reason: Reason) -> Result<Fate, End> {
         control.err = 1;
         control.gerror = !control.gerror;
         self.store(0, control.pack())?;
-        Ok(Fate::Raised)
+        let slot = control.slot();
+        let raised = Raised { reason, slot };
+        self.report.raised = Some(raised);
+        Ok(Fate::Raised(raised))
     }
 }
 
@@ -110,6 +115,7 @@ pub fn run(
     }
     let report = Report {
         end: End::Empty,
+        raised: None,
         consumed: 0,
         stores: 0,
         removed: 0,
@@ -149,12 +155,12 @@ fn command(
     }
     let (low, high) = fetch(queue, control.slot());
     let fate = match decode(low, high, features) {
-        Some(effect) => writer.consume(control, effect)?,
-        None => writer.raise(control)?,
+        Ok(effect) => writer.consume(control, effect)?,
+        Err(reason) => writer.raise(control, reason)?,
     };
     watch(low as u8, fate);
     match fate {
-        Fate::Raised => Err(End::Raised),
+        Fate::Raised(_) => Err(End::Raised),
         _ => Ok(()),
     }
 }

@@ -21,16 +21,23 @@ pub fn cases(checker: &mut Checker) {
 }
 
 /// One call whose number and first answer words the paper gives.
-fn expect(checker: &mut Checker, kept: &mut [u64], call: Call, number: u64, words: &[u64]) {
+pub fn expect(checker: &mut Checker, kept: &mut [u64], call: Call, number: u64, words: &[u64]) {
     let before = kept.to_vec();
     let reply = checker.call(kept, call);
     let met = reply.number == number && reply.answer.starts_with(words);
-    let law = "a bench case of the paper isn't met";
+    let law = "a case of the paper isn't met";
     checker.insist(met, law, &before, call, (reply, kept));
 }
 
-/// A run over one command: end, consumed, stores, removed, counted syncs.
-fn one(checker: &mut Checker, rows: &[Words], command: (u64, u64), features: u64, words: &[u64]) {
+/// A run over one command: end, consumed, stores, removed, counted syncs; then
+/// reason and slot, where they are given.
+pub fn one(
+    checker: &mut Checker,
+    rows: &[Words],
+    command: (u64, u64),
+    features: u64,
+    words: &[u64],
+) {
     let mut kept = with_rows(waiting(0, 1), rows);
     let queue = bytes(&[command]);
     let call = Call::Run {

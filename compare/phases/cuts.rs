@@ -20,14 +20,14 @@ pub fn cuts(checker: &mut Checker) {
 }
 
 /// A memory, its queue and the features to run it with.
-struct Work {
-    kept: Vec<u64>,
-    queue: Vec<u8>,
-    features: u64,
+pub struct Work {
+    pub kept: Vec<u64>,
+    pub queue: Vec<u8>,
+    pub features: u64,
 }
 
 impl Work {
-    fn run(&self, allowance: u64) -> Call<'_> {
+    pub fn run(&self, allowance: u64) -> Call<'_> {
         Call::Run {
             queue: &self.queue,
             features: self.features,
@@ -87,7 +87,7 @@ const SAME: &str = "a cut run called again isn't the uncut run";
 const SPENT: &str = "a run ended before its stores were made";
 
 /// The run cut after each number of stores, and then called to its end.
-fn every_cut(checker: &mut Checker, work: &Work) {
+pub fn every_cut(checker: &mut Checker, work: &Work) {
     let mut whole = work.kept.clone();
     let uncut = checker.call(&mut whole, work.run(u64::MAX));
     let mut previous = work.kept.clone();
@@ -113,10 +113,11 @@ fn changed(before: &[u64], after: &[u64]) -> u64 {
     pairs.filter(|(then, now)| then != now).count() as u64
 }
 
-/// Adds the four counts; the end is the last call's.
+/// Adds the four counts; the end and what it carries are the last call's.
 fn add(sums: &mut [u64; 8], answer: [u64; 8]) {
-    sums[0] = answer[0];
-    (1..5).for_each(|place| sums[place] += answer[place]);
+    let counts: [u64; 4] = std::array::from_fn(|place| sums[place + 1]);
+    *sums = answer;
+    (0..4).for_each(|place| sums[place + 1] += counts[place]);
 }
 
 /// The largest queue over the largest table, cut at places all along the run:
@@ -154,7 +155,7 @@ fn one_row_each(random: &mut Random) -> Work {
 }
 
 /// One run cut at so many places, each call going on where the last was cut.
-fn all_along(checker: &mut Checker, work: &Work) {
+pub fn all_along(checker: &mut Checker, work: &Work) {
     let mut whole = work.kept.clone();
     let call = work.run(u64::MAX);
     let uncut = checker.call(&mut whole, call);

@@ -7,6 +7,7 @@ pub mod controls;
 pub mod cuts;
 pub mod formats;
 pub mod limits;
+pub mod reasons;
 pub mod sequences;
 pub mod single;
 

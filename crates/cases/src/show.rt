@@ -16,13 +16,24 @@ fn done(verb: u8, w: [u64; 8]) {
             b"accepted, RD 0x$, WR 0x$, ERR #, active #, enabled #, used #",
             w,
         ),
-        b'r' => told(
-            b"{Off|Held|Empty|Raised|Cut}, consumed #, stores #, removed #, syncs #",
-            w,
-        ),
+        b'r' => run(w),
         b'f' => told(b"{Filled|Cut}, stores #", w),
         b't' => outcome(w),
         _ => text::say(b"accepted"),
+    }
+}
+
+// A raised error tells its reason and its slot.
+fn run(w: [u64; 8]) {
+    told(
+        b"{Off|Held|Empty|Raised|Cut}, consumed #, stores #, removed #, syncs #",
+        w,
+    );
+    if (w[5] != 0) | (w[6] != 0) {
+        told(
+            b", {|unknown code|feature absent|Reserved bit|bad parameter} in slot #",
+            [w[5], w[6], 0, 0, 0, 0, 0, 0],
+        );
     }
 }
 

@@ -1,18 +1,18 @@
 -- What legal says, test by test and bit by bit.
 -- Assumes nothing.
 use mathlib.Core.Path.{_≡_, refl}
-use mathlib.Core.Bool.{Bool, true, false, _&&_}
+use mathlib.Core.Bool.{Bool, true, false, not}
+use mathlib.Core.List.{List, [], _∷_}
 use Prim.Native.Nat.{ℕ, _<_}
-use native.Mathlib.Omega.{arith}
-use Rattle.words.specs.Choice.{pick}
-use Rattle.words.specs.Parts.{isSet, joined}
+use Rattle.words.specs.Parts.{isSet}
 use Rattle.words.specs.Ranges.{named}
-use Rattle.words.proofs.Truth.{left, right, and-true}
+use Rattle.words.proofs.Truth.{clash}
 use Rattle.words.proofs.Masks.{reads, read-back}
 use Rattle.commands.specs.declared.Features.{Features}
-use Rattle.commands.specs.declared.Decoded.the-variants.{Legal, Illegal}
+use Rattle.commands.specs.declared.Reason.{Reason}
+use Rattle.commands.specs.declared.Reason.the-variants.{UnknownCode, FeatureAbsent, ReservedBit, BadParameter}
 use Rattle.commands.specs.Formats.{namedAt}
-use Rattle.commands.specs.Decoding.{codeOf, placeIn, knownCode, featurePresent, clean, parameterGood, isLegal, commandOf, decode}
+use Rattle.commands.specs.Decoding.{codeOf, placeIn, knownCode, featurePresent, clean, parameterGood, none, isLegal}
 
 -- Reserved bits, one by one: each of the 128 bits that is set is named
 pub clean-means : (f : Features) (k c : ℕ) → clean f k c ≡ true → (i : ℕ) → i < 128 → isSet i c ≡ true → named (namedAt f k) i ≡ true
@@ -30,40 +30,30 @@ pub record Tests (f : Features) (c : ℕ) : Type 0 where
   pub spotless : clean f (placeIn c) c ≡ true
   pub sound : parameterGood (codeOf c) c ≡ true
 
+-- the four, whatever they test
+abbrev pub four : Bool → Bool → Bool → Bool → List (Reason × Bool)
+four a b d e = (UnknownCode, not a) ∷ (FeatureAbsent, not b) ∷ (ReservedBit, not d) ∷ (BadParameter, not e) ∷ []
+
+record All (a b d e : Bool) : Type 0 where
+  first : a ≡ true
+  second : b ≡ true
+  third : d ≡ true
+  fourth : e ≡ true
+
+all-pass : (a b d e : Bool) → none (four a b d e) ≡ true → All a b d e
+all-pass true true true true q = record { first = refl; second = refl; third = refl; fourth = refl }
+all-pass true true true false q = clash q refl
+all-pass true true false e q = clash q refl
+all-pass true false d e q = clash q refl
+all-pass false b d e q = clash q refl
+
 module _ (f : Features) (c : ℕ) where
   pub legal-means : isLegal f c ≡ true → Tests f c
   unfolding isLegal
-  legal-means e =
-      let a = knownCode c in
-      let b = featurePresent f (codeOf c) in
-      let d = clean f (placeIn c) c in
-      let abd = left (a && b && d) (parameterGood (codeOf c) c) e in
-      let ab = left (a && b) d abd in
-      record {
-        known = left a b ab;
-        present = right a b ab;
-        spotless = right (a && b) d abd;
-        sound = right (a && b && d) (parameterGood (codeOf c) c) e;
-      }
+  legal-means q =
+      let all = all-pass (knownCode c) (featurePresent f (codeOf c)) (clean f (placeIn c) c) (parameterGood (codeOf c) c) q in
+      record { known = all .first; present = all .second; spotless = all .third; sound = all .fourth }
 
   pub means-legal : Tests f c → isLegal f c ≡ true
   unfolding isLegal
-  means-legal t = and-true (and-true (and-true (t .known) (t .present)) (t .spotless)) (t .sound)
-
--- decoding answers the illegal case exactly where one of the four fails
-module _ (f : Features) (lo hi : ℕ) where
-  pub illegal : isLegal f (joined lo hi) ≡ false → decode f lo hi ≡ Illegal
-  unfolding decode
-  illegal e = rw e
-
-  pub legal : isLegal f (joined lo hi) ≡ true → decode f lo hi ≡ Legal (commandOf (codeOf (joined lo hi)) (joined lo hi))
-  unfolding decode
-  legal e = rw e
-
-  pub illegal-only : decode f lo hi ≡ Illegal → isLegal f (joined lo hi) ≡ false
-  unfolding decode
-  illegal-only e = cases (isLegal f (joined lo hi)) e
-    where
-      cases : (b : Bool) → pick b (Legal (commandOf (codeOf (joined lo hi)) (joined lo hi))) Illegal ≡ Illegal → b ≡ false
-      cases true q = let z : _≡_ {A = ℕ} 0 1 = cc in absurd (omega arith)
-      cases false q = refl
+  means-legal t = rw (t .known, t .present, t .spotless, t .sound)

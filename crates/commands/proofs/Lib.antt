@@ -2,4 +2,6 @@ pub mod Masks
 pub mod Codes
 pub mod Commands
 pub mod Legality
+pub mod Reasons
+pub mod Deciding
 pub mod OtherCommands

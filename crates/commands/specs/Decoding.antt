@@ -1,7 +1,7 @@
 -- Document 01, Commands and their scopes: which commands are legal, and what they are.
 -- Assumes nothing.
 use Prim.Native.Nat.{ℕ, _+_, _*_}
-use mathlib.Core.Bool.{Bool, true, false, not, _&&_, _||_}
+use mathlib.Core.Bool.{Bool, true, false, not, _&&_}
 use mathlib.Core.List.{List, [], _∷_}
 use lib.Dec.{eqb, ltb}
 use Rattle.words.specs.Choice.{pick}
@@ -12,6 +12,8 @@ use Rattle.words.specs.Bytes.{wordAt}
 use Rattle.commands.specs.declared.Features.{Features}
 use Rattle.commands.specs.declared.Command.{Command}
 use Rattle.commands.specs.declared.Command.the-variants.{PrefetchConfig, PrefetchAddr, CfgiSte, CfgiSteRange, CfgiCd, CfgiCdAll, TlbiNhAll, TlbiNhAsid, TlbiNhVa, TlbiNhVaa, TlbiS12Vmall, TlbiS2Ipa, TlbiNsnhAll, Sync}
+use Rattle.commands.specs.declared.Reason.{Reason}
+use Rattle.commands.specs.declared.Reason.the-variants.{UnknownCode, FeatureAbsent, ReservedBit, BadParameter}
 use Rattle.commands.specs.declared.Decoded.{Decoded}
 use Rattle.commands.specs.declared.Decoded.the-variants.{Legal, Illegal}
 use Rattle.commands.specs.Formats.{Format, codeBits, csBits, formats, codeIn, needsIn, commandIn, codes, howMany, namedAt}
@@ -44,20 +46,45 @@ clean f k c = setOnly 128 (named (namedAt f k)) c
 unfoldable pub parameterGood : ℕ → ℕ → Bool
 parameterGood code c = not (eqb code 0x46 && eqb (get csBits c) 3)
 
-unfoldable pub isLegal : Features → ℕ → Bool
-isLegal f c = knownCode c && featurePresent f (codeOf c) && clean f (placeIn c) c && parameterGood (codeOf c) c
-
 -- a legal code's command; CMD_SYNC is the last
 unfoldable pub commandOf : ℕ → ℕ → Command
 commandOf code c = at (λ (l : Format). commandIn l c) (Sync (get csBits c)) formats code
 
+-- Document 02, T-09: the four tests in their order, each with the reason that it gives where it fails
+abbrev pub reasons : Features → ℕ → List (Reason × Bool)
+reasons f c =
+    (UnknownCode, not (knownCode c))
+    ∷ (FeatureAbsent, not (featurePresent f (codeOf c)))
+    ∷ (ReservedBit, not (clean f (placeIn c) c))
+    ∷ (BadParameter, not (parameterGood (codeOf c) c))
+    ∷ []
+
+-- legal: none applies
+abbrev pub none : List (Reason × Bool) → Bool
+none [] = true
+none (r ∷ rs) = not (r .1) && none rs
+
+unfoldable pub isLegal : Features → ℕ → Bool
+isLegal f c = none (reasons f c)
+
+-- illegal: the first that applies
+abbrev pub first : List (Reason × Bool) → Decoded → Decoded
+first [] legal = legal
+first (r ∷ rs) legal = pick (r .1) (Illegal (r .0)) (first rs legal)
+
 unfoldable pub decode : Features → ℕ → ℕ → Decoded
-decode f lo hi =
-    pick (isLegal f (joined lo hi)) (Legal (commandOf (codeOf (joined lo hi)) (joined lo hi))) Illegal
+decode f lo hi = first (reasons f (joined lo hi)) (Legal (commandOf (codeOf (joined lo hi)) (joined lo hi)))
+
+-- the reasons, numbered
+abbrev pub reasonNumber : Reason → ℕ
+reasonNumber UnknownCode = 1
+reasonNumber FeatureAbsent = 2
+reasonNumber ReservedBit = 3
+reasonNumber BadParameter = 4
 
 abbrev pub isIllegal : Decoded → Bool
 isIllegal (Legal command) = false
-isIllegal Illegal = true
+isIllegal (Illegal why) = true
 
 -- the command in a slot of the queue: 16 bytes, the low word first
 unfoldable pub decodeAt : Features → List ℕ → ℕ → Decoded
@@ -83,4 +110,4 @@ isCounted (Sync cs) = eqb cs 1
 -- how many of those a decoded command is
 abbrev pub syncsOf : Decoded → ℕ
 syncsOf (Legal command) = pick (isCounted command) 1 0
-syncsOf Illegal = 0
+syncsOf (Illegal why) = 0

@@ -2,6 +2,7 @@
 use crate::Command;
 use crate::Decoded;
 use crate::Features;
+use crate::Reason;
 use crate::Target;
 use crate::formats::CODES;
 use crate::formats::clean;
@@ -13,7 +14,7 @@ ghost use Rattle.words.specs.Parts.{joined};
 ghost use Rattle.words.specs.Search.{placeOf};
 ghost use Rattle.words.specs.Ranges.{get};
 ghost use Rattle.commands.specs.Formats.{codes, streamBits, vmidBits, asidBits, leafBits, pageBits, isSetIn, targetOf};
-ghost use Rattle.commands.specs.Decoding.{featurePresent, parameterGood, isLegal, commandOf, decode, decodeAt, isCounted, syncsOf};
+ghost use Rattle.commands.specs.Decoding.{featurePresent, parameterGood, commandOf, decode, decodeAt, isCounted, syncsOf};
 
 // The place of a code among the codes, or how many there are.
 fn place(code: u64) -> usize
@@ -63,17 +64,6 @@ fn parameter_good(code: u64, lo: u64, hi: u64) -> bool
     ensures { λ r. ⌜ r ≡ parameterGood code (joined lo hi) ⌝ }
 {
     !((code == 0x46) & (field(lo, hi, 13, 12) == 3))
-}
-
-fn is_legal(f: Features, lo: u64, hi: u64) -> bool
-    ensures { λ r. ⌜ r ≡ isLegal f (joined lo hi) ⌝ }
-{
-    let code = field(lo, hi, 7, 0);
-    let k = place(code);
-    if k < CODES {
-        return feature_present(f, code) & clean(f, k, lo, hi) & parameter_good(code, lo, hi);
-    }
-    false
 }
 
 fn stream(lo: u64, hi: u64) -> u64
@@ -136,14 +126,25 @@ fn command_of(code: u64, lo: u64, hi: u64) -> Command
     }
 }
 
+// What a command is: the first test that fails says why it is illegal.
 pub fn decode(f: Features, lo: u64, hi: u64) -> Decoded
     ensures { λ r. ⌜ r ≡ decode f lo hi ⌝ }
 {
-    if is_legal(f, lo, hi) {
-        Decoded::Legal(command_of(field(lo, hi, 7, 0), lo, hi))
-    } else {
-        Decoded::Illegal
+    let code = field(lo, hi, 7, 0);
+    let k = place(code);
+    if k >= CODES {
+        return Decoded::Illegal(Reason::UnknownCode);
     }
+    if !feature_present(f, code) {
+        return Decoded::Illegal(Reason::FeatureAbsent);
+    }
+    if !clean(f, k, lo, hi) {
+        return Decoded::Illegal(Reason::ReservedBit);
+    }
+    if !parameter_good(code, lo, hi) {
+        return Decoded::Illegal(Reason::BadParameter);
+    }
+    Decoded::Legal(command_of(code, lo, hi))
 }
 
 // The command in a slot of the lent queue.
@@ -170,6 +171,6 @@ pub fn syncs_of(d: Decoded) -> u64
 {
     match d {
         Decoded::Legal(c) => { if counted(c) { 1 } else { 0 } }
-        Decoded::Illegal => 0,
+        Decoded::Illegal(_) => 0,
     }
 }

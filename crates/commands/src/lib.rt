@@ -51,8 +51,16 @@ pub enum Command {
     Sync(u64),
 }
 
+// Document 02, T-09: why a command is illegal.
+pub enum Reason {
+    UnknownCode,
+    FeatureAbsent,
+    ReservedBit,
+    BadParameter,
+}
+
 // What sixteen bytes of the queue are.
 pub enum Decoded {
     Legal(Command),
-    Illegal,
+    Illegal(Reason),
 }

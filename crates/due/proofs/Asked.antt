@@ -8,15 +8,16 @@ use lib.ListN.{set}
 use Rattle.words.specs.declared.Found.{Found}
 use Rattle.words.specs.declared.Found.the-variants.{At, Nothing}
 use Rattle.words.proofs.Search.{found}
+use Rattle.control.specs.Control as control
 use Rattle.control_stores.specs.Stores as control-stores
 use Rattle.commands.specs.declared.Features.{Features}
 use Rattle.commands.specs.declared.Command.{Command}
+use Rattle.commands.specs.declared.Reason.{Reason}
 use Rattle.commands.specs.declared.Decoded.{Decoded}
 use Rattle.commands.specs.declared.Decoded.the-variants.{Legal, Illegal}
-use Rattle.commands.specs.Decoding.{syncsOf}
 use Rattle.image.specs.Image.{rowsIn, controlOf}
 use Rattle.due.specs.declared.Stepped.the-variants.{Removed, Consumed, DidRaise}
-use Rattle.due.specs.Due.{What, Remove, Consume, Raise, Due, Rests, Stores, scopedAt, scan, byScan, afterCommand, dueFor, storeOf, Ready, Made}
+use Rattle.due.specs.Due.{Remove, Stores, scopedAt, scan, byScan, afterCommand, dueFor, storeOf, Ready, Made}
 
 module _ (f : Features) (c : Command) (from : ℕ) (m : List ℕ) (r : Ready f (Legal c) from m) where
   by-scan : (x : Found) → x ≡ scan f c m (rowsIn m - from) from → dueFor f (Legal c) m ≡ byScan c (controlOf m) x
@@ -46,9 +47,10 @@ module _ {f : Features} {d : Decoded} {from : ℕ} {m : List ℕ} (r : Ready f d
         stored = ap (set m 0) h;
       })
 
-  pub made-raised : {v : ℕ} → d ≡ Illegal → v ≡ control-stores.raised (controlOf m) → Made f d m (set m 0 v) DidRaise
+  pub made-raised : {why : Reason} {v n : ℕ} → d ≡ Illegal why → v ≡ control-stores.raised (controlOf m) → n ≡ control.slot (controlOf m)
+      → Made f d m (set m 0 v) (DidRaise (record { why = why; slot = n }))
   unfolding dueFor
-  made-raised s h = rw s (record { is-due = refl; stored = ap (set m 0) h })
+  made-raised {why} s h e = rw (s, e) (record { is-due = refl; stored = ap (set m 0) h })
 
 -- a removal that is due: the command is legal, and the row is the lowest in scope
 pub record Removes (f : Features) (d : Decoded) (m : List ℕ) (i : ℕ) : Type 0 where
@@ -66,4 +68,4 @@ found-row c w i Nothing e = let z : _≡_ {A = ℕ} 0 1 = cc in absurd (omega ar
 pub due-removes : (f : Features) (d : Decoded) (m : List ℕ) (i : ℕ) → dueFor f d m ≡ storeOf d m (Removed i) → Removes f d m i
 unfolding dueFor
 due-removes f (Legal c) m i e = record { command = c; legal = refl; lowest-row = found-row c (controlOf m) i (scan f c m (rowsIn m) 0) e }
-due-removes f Illegal m i e = let z : _≡_ {A = ℕ} 0 1 = cc in absurd (omega arith)
+due-removes f (Illegal why) m i e = let z : _≡_ {A = ℕ} 0 1 = cc in absurd (omega arith)

@@ -5,7 +5,6 @@ use mathlib.Core.Bool.{Bool}
 use mathlib.Core.List.{List, [], _∷_}
 use Prim.Native.Nat.{ℕ, _+_, _-_, _*_, _≤_}
 use lib.ListN.{length, set}
-use Rattle.words.specs.Choice.{pick}
 use Rattle.words.specs.Ranges.{Range}
 use Rattle.words.specs.Search.{lowest}
 use Rattle.words.specs.declared.Found.{Found}
@@ -17,19 +16,21 @@ use Rattle.control.specs.declared.Standing.the-variants.{Resting, Open}
 use Rattle.control_stores.specs.Stores as control-stores
 use Rattle.commands.specs.declared.Features.{Features}
 use Rattle.commands.specs.declared.Command.{Command}
+use Rattle.commands.specs.declared.Reason.{Reason}
 use Rattle.commands.specs.declared.Decoded.{Decoded}
 use Rattle.commands.specs.declared.Decoded.the-variants.{Legal, Illegal}
 use Rattle.commands.specs.Decoding.{decodeAt, syncsOf}
 use Rattle.scopes.specs.Scopes.{inScope}
 use Rattle.image.specs.Image.{rowsIn, controlOf, rowAt}
+use Rattle.due.specs.declared.Raising.{Raising}
 use Rattle.due.specs.declared.Stepped.{Stepped}
 use Rattle.due.specs.declared.Stepped.the-variants.{Removed, Consumed, DidRaise}
 
--- what a store does: it removes a row, consumes a command, of which so many CMD_SYNCs with CS 1, or raises the error
+-- what a store does: it removes a row, consumes a command, of which so many CMD_SYNCs with CS 1, or raises the error and tells why
 pub data What : Type 0 where
   Remove : What
   Consume : ℕ → What
-  Raise : What
+  Raise : Raising → What
 
 -- nothing is due, or one store: its place, its word, and what it does
 pub data Due : Type 0 where
@@ -56,10 +57,14 @@ abbrev pub byScan : Command → ℕ → Found → Due
 byScan command w (At i) = Stores (4 * i + 1) 0 Remove
 byScan command w Nothing = Stores 0 (afterCommand (Legal command) w) (Consume (syncsOf (Legal command)))
 
+-- Document 02, T-09: the error tells the command's reason and its slot
+abbrev pub raisingAt : Reason → ℕ → Raising
+raisingAt why w = record { why = why; slot = control.slot w }
+
 -- the command at RD; an illegal one raises the error
 unfoldable pub dueFor : Features → Decoded → List ℕ → Due
 dueFor f (Legal command) m = byScan command (controlOf m) (scan f command m (rowsIn m) 0)
-dueFor f Illegal m = Stores 0 (control-stores.raised (controlOf m)) Raise
+dueFor f (Illegal why) m = Stores 0 (control-stores.raised (controlOf m)) (Raise (raisingAt why (controlOf m)))
 
 abbrev pub atRd : Features → List ℕ → List ℕ → Decoded
 atRd f queue m = decodeAt f queue (control.slot (controlOf m))
@@ -80,11 +85,11 @@ made (Stores i v what) m = set m i v
 abbrev pub storeOf : Decoded → List ℕ → Stepped → Due
 storeOf d m (Removed i) = Stores (4 * i + 1) 0 Remove
 storeOf d m Consumed = Stores 0 (afterCommand d (controlOf m)) (Consume (syncsOf d))
-storeOf d m DidRaise = Stores 0 (control-stores.raised (controlOf m)) Raise
+storeOf d m (DidRaise told) = Stores 0 (control-stores.raised (controlOf m)) (Raise told)
 
 abbrev pub noneBelow : Features → Decoded → List ℕ → ℕ → Type 0
 noneBelow f (Legal command) m from = scan f command m (rowsIn m - from) from ≡ scan f command m (rowsIn m) 0
-noneBelow f Illegal m from = from ≡ 0
+noneBelow f (Illegal why) m from = from ≡ 0
 
 pub record Ready (f : Features) (d : Decoded) (from : ℕ) (m : List ℕ) : Type 0 where
   pub room : 4 * rowsIn m + 1 ≤ length m

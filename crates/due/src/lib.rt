@@ -2,6 +2,7 @@
 use commands::Command;
 use commands::Decoded;
 use commands::Features;
+use commands::Reason;
 use words::Found;
 ghost use mathlib.Core.Path.{_≡_};
 ghost use Prim.Native.Nat.{_+_, _*_, _-_, _≤_};
@@ -9,11 +10,17 @@ ghost use lib.ListN.{length};
 ghost use Rattle.image.specs.Image.{rowsIn};
 ghost use Rattle.due.specs.Due.{scopedAt, scan, Ready, Made};
 
+// Document 02, T-09: what a raised error tells: why the command is illegal, and the slot that it is in.
+pub struct Raising {
+    pub why: Reason,
+    pub slot: u64,
+}
+
 // The one store that a step made.
 pub enum Stepped {
     Removed(usize),
     Consumed,
-    DidRaise,
+    DidRaise(Raising),
 }
 
 fn scoped_at(kept: &[u64], f: Features, c: Command, i: usize) -> bool
@@ -60,10 +67,11 @@ pub fn step(kept: &mut [u64], f: Features, d: Decoded, from: usize) -> Stepped
                 Stepped::Consumed
             }
         },
-        Decoded::Illegal => {
+        Decoded::Illegal(why) => {
             let w = kept[0];
+            let slot = control::slot_of(w);
             kept[0] = control_stores::raised(w);
-            Stepped::DidRaise
+            Stepped::DidRaise(Raising { why, slot })
         }
     }
 }

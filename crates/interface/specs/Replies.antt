@@ -7,6 +7,9 @@ use Rattle.words.specs.Choice.{pick}
 use Rattle.image.specs.declared.Refusal.{Refusal}
 use Rattle.image.specs.declared.Refusal.the-variants.{BadLength, BadControl, BadRow}
 use Rattle.image.specs.Image as image
+use Rattle.commands.specs.Decoding.{reasonNumber}
+use Rattle.runs.specs.declared.End.{End}
+use Rattle.runs.specs.declared.End.the-variants.{Off, Held, Empty, Raised, Cut as Run·Cut}
 use Rattle.runs.specs.declared.RunRefusal.{RunRefusal}
 use Rattle.runs.specs.declared.RunRefusal.the-variants.{Image as Run·Image, BadQueue}
 use Rattle.runs.specs.declared.RunAnswer.{RunAnswer}
@@ -57,7 +60,22 @@ rowOf (BadRow i) = i
 abbrev pub imageReply : Refusal → Reply
 imageReply why = record { code = image.number why; words = rowOf why ∷ 0 ∷ 0 ∷ 0 ∷ 0 ∷ 0 ∷ 0 ∷ 0 ∷ [] }
 
--- a run: its end, and the four counts
+-- Document 02, T-09: what a raised error tells, and 0 where none was raised
+abbrev pub reasonIn : End → ℕ
+reasonIn Off = 0
+reasonIn Held = 0
+reasonIn Empty = 0
+reasonIn (Raised told) = reasonNumber (told .why)
+reasonIn Run·Cut = 0
+
+abbrev pub slotIn : End → ℕ
+slotIn Off = 0
+slotIn Held = 0
+slotIn Empty = 0
+slotIn (Raised told) = told .slot
+slotIn Run·Cut = 0
+
+-- a run: its end, the four counts, and what a raised error tells
 abbrev pub runRefusal : RunRefusal → Reply
 runRefusal (Run·Image why) = imageReply why
 runRefusal BadQueue = nothing (runs.number BadQueue)
@@ -67,7 +85,7 @@ runReply (NotRun why) = runRefusal why
 runReply (DidRun ran) =
     record {
       code = 0;
-      words = running.endNumber (ran .end) ∷ ran .consumed ∷ ran .stores ∷ ran .removed ∷ ran .syncs ∷ 0 ∷ 0 ∷ 0 ∷ [];
+      words = running.endNumber (ran .end) ∷ ran .consumed ∷ ran .stores ∷ ran .removed ∷ ran .syncs ∷ reasonIn (ran .end) ∷ slotIn (ran .end) ∷ 0 ∷ [];
     }
 
 -- a fill: its end, and its stores

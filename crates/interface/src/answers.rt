@@ -1,5 +1,6 @@
 // What a C caller is told: document 01's numbers for the enums' cases.
 use crate::Reply;
+use commands::Reason;
 use control_calls::AcknowledgeAnswer;
 use control_calls::AcknowledgeRefusal;
 use control_calls::DoorbellAnswer;
@@ -18,9 +19,10 @@ use transactions::Outcome;
 use transactions::TransactionAnswer;
 use transactions::TransactionRefusal;
 ghost use mathlib.Core.Path.{_≡_};
+ghost use Rattle.commands.specs.Decoding.{reasonNumber};
 ghost use Rattle.runs.specs.Running as running;
 ghost use Rattle.fills.specs.Fills as fills;
-ghost use Rattle.interface.specs.Replies.{bitOf, nothing, imageReply, runRefusal, runReply, fillRefusal, fillReply, doorbellRefusal, doorbellReply, acknowledgeRefusal, acknowledgeReply, enableReply, missNumber, outcomeReply, transactionRefusal, translateReply, stateReply};
+ghost use Rattle.interface.specs.Replies.{bitOf, nothing, imageReply, reasonIn, slotIn, runRefusal, runReply, fillRefusal, fillReply, doorbellRefusal, doorbellReply, acknowledgeRefusal, acknowledgeReply, enableReply, missNumber, outcomeReply, transactionRefusal, translateReply, stateReply};
 
 fn bit_of(on: bool) -> u64
     ensures { λ r. ⌜ r ≡ bitOf on ⌝ }
@@ -61,8 +63,48 @@ fn end_number(e: End) -> u64
         End::Off => 0,
         End::Held => 1,
         End::Empty => 2,
-        End::Raised => 3,
+        End::Raised(_) => 3,
         End::Cut => 4,
+    }
+}
+
+// Document 02, T-09: why a command is illegal, by its number.
+fn reason_number(why: Reason) -> u64
+    ensures { λ r. ⌜ r ≡ reasonNumber why ⌝ }
+{
+    match why {
+        Reason::UnknownCode => 1,
+        Reason::FeatureAbsent => 2,
+        Reason::ReservedBit => 3,
+        Reason::BadParameter => 4,
+    }
+}
+
+// What a raised error tells: its reason and its slot, and 0 where none was raised.
+fn reason_in(e: End) -> u64
+    ensures { λ r. ⌜ r ≡ reasonIn e ⌝ }
+{
+    match e {
+        End::Off => 0,
+        End::Held => 0,
+        End::Empty => 0,
+        End::Raised(told) => {
+            let why = told.why;
+            reason_number(why)
+        }
+        End::Cut => 0,
+    }
+}
+
+fn slot_in(e: End) -> u64
+    ensures { λ r. ⌜ r ≡ slotIn e ⌝ }
+{
+    match e {
+        End::Off => 0,
+        End::Held => 0,
+        End::Empty => 0,
+        End::Raised(told) => told.slot,
+        End::Cut => 0,
     }
 }
 
@@ -90,8 +132,8 @@ pub fn run_reply(a: RunAnswer) -> Reply
                     ran.stores,
                     ran.removed,
                     ran.syncs,
-                    0,
-                    0,
+                    reason_in(e),
+                    slot_in(e),
                     0,
                 ],
             }

@@ -3,6 +3,7 @@ use crate::scene;
 use crate::scene::bit;
 use commands::Command;
 use commands::Decoded;
+use commands::Reason;
 use image::Checked;
 use rows::Row;
 use text::say;
@@ -72,7 +73,16 @@ fn waiting(queue: &[u8; 16]) {
     );
     match commands::decode(commands::features_of(scene::FEATURES), low, high) {
         Decoded::Legal(c) => legal(c),
-        Decoded::Illegal => say(b"illegal\n"),
+        Decoded::Illegal(why) => illegal(why),
+    }
+}
+
+fn illegal(why: Reason) {
+    match why {
+        Reason::UnknownCode => say(b"illegal: unknown code\n"),
+        Reason::FeatureAbsent => say(b"illegal: feature absent\n"),
+        Reason::ReservedBit => say(b"illegal: Reserved bit set\n"),
+        Reason::BadParameter => say(b"illegal: bad parameter\n"),
     }
 }
 

@@ -26,7 +26,7 @@ module _ (f : Features) (queue : List ℕ) (n : ℕ) where
       let formed = control-formed.formed (controlOf m) (a .control-formed) in
       rw stored
       (control-stored m n a _ (control-formed.is-formed _ (after-formed (Legal c) (controlOf m) formed (open-waits (controlOf m) (d .open-for-it)))))
-  by-case m m′ w a d (raises illegal what stored) =
+  by-case m m′ w a d (raises why illegal what stored) =
       let formed = control-formed.formed (controlOf m) (a .control-formed) in
       rw stored (control-stored m n a _ (control-formed.is-formed _ (raised-formed (controlOf m) formed)))
 

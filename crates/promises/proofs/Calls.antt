@@ -48,7 +48,7 @@ module _ (f : Features) (queue : List ℕ) where
     size-kept m m′ w s (consumes c legal nothing what stored) =
         let v = afterCommand (Legal c) (controlOf m) in
         rw (stored, getD-set-same m 0 v 0 (omega (arith, s .image .size .words))) (after-keeps (Legal c) (controlOf m) control.log2sizeBits tt ∙ s .same)
-    size-kept m m′ w s (raises illegal what stored) =
+    size-kept m m′ w s (raises why illegal what stored) =
         let v = control-stores.raised (controlOf m) in
         rw (stored, getD-set-same m 0 v 0 (omega (arith, s .image .size .words))) (raised-keeps (controlOf m) control.log2sizeBits tt ∙ s .same)
 

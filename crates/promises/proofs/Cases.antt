@@ -18,9 +18,10 @@ use Rattle.commands.specs.declared.Command.{Command}
 use Rattle.commands.specs.declared.Decoded.{Decoded}
 use Rattle.commands.specs.declared.Decoded.the-variants.{Legal, Illegal}
 use Rattle.commands.specs.Decoding.{syncsOf}
+use Rattle.commands.specs.declared.Reason.{Reason}
 use Rattle.image.specs.Image.{rowsIn, controlOf}
 use Rattle.image.proofs.AfterStores.{cleared}
-use Rattle.due.specs.Due.{What, Remove, Consume, Raise, Due, Rests, Stores, scopedAt, scan, byScan, afterCommand, dueFor, atRd, gate, due}
+use Rattle.due.specs.Due.{What, Remove, Consume, Raise, Due, Rests, Stores, scopedAt, scan, byScan, afterCommand, dueFor, atRd, gate, due, raisingAt}
 use Rattle.due.proofs.Scans.{lowest-scoped}
 use Rattle.runs.specs.Running.{Next, rests, stores, nextOf, dueIn}
 
@@ -28,7 +29,7 @@ use Rattle.runs.specs.Running.{Next, rests, stores, nextOf, dueIn}
 pub data Case (f : Features) (queue m : List ℕ) (w : What) (m′ : List ℕ) : Type 0 where
   removes : (c : Command) (i : ℕ) → atRd f queue m ≡ Legal c → Lowest (scopedAt f c m) (rowsIn m) 0 i → w ≡ Remove → m′ ≡ cleared m i → Case f queue m w m′
   consumes : (c : Command) → atRd f queue m ≡ Legal c → scan f c m (rowsIn m) 0 ≡ Nothing → w ≡ Consume (syncsOf (Legal c)) → m′ ≡ set m 0 (afterCommand (Legal c) (controlOf m)) → Case f queue m w m′
-  raises : atRd f queue m ≡ Illegal → w ≡ Raise → m′ ≡ set m 0 (control-stores.raised (controlOf m)) → Case f queue m w m′
+  raises : (why : Reason) → atRd f queue m ≡ Illegal why → w ≡ Raise (raisingAt why (controlOf m)) → m′ ≡ set m 0 (control-stores.raised (controlOf m)) → Case f queue m w m′
 
 pub record IsDue (f : Features) (queue m : List ℕ) (w : What) (m′ : List ℕ) : Type 0 where
   pub open-for-it : control.standing (controlOf m) ≡ Open
@@ -42,7 +43,7 @@ module _ (f : Features) (queue m : List ℕ) (w : What) (m′ : List ℕ) where
   by-command : (d : Decoded) → atRd f queue m ≡ d → nextOf (dueFor f d m) m ≡ stores w m′ → Case f queue m w m′
   unfolding dueFor
   by-command (Legal c) e s = by-scan c e (scan f c m (rowsIn m) 0) refl s
-  by-command Illegal e s = raises e (cc) (cc)
+  by-command (Illegal why) e s = raises why e (cc) (cc)
 
   by-standing : (st : Standing) → control.standing (controlOf m) ≡ st → nextOf (gate st (dueFor f (atRd f queue m) m)) m ≡ stores w m′ → IsDue f queue m w m′
   by-standing (Resting r) e s = let z : _≡_ {A = ℕ} 0 1 = cc in absurd (omega arith)
@@ -61,7 +62,7 @@ module _ (f : Features) (queue m : List ℕ) (r : Rest) where
       by-found : (x : Found) → nextOf (byScan c (controlOf m) x) m ≡ rests r → ⊥
       by-found (At i) e = let z : _≡_ {A = ℕ} 0 1 = cc in omega arith
       by-found Nothing e = let z : _≡_ {A = ℕ} 0 1 = cc in omega arith
-  never-rests Illegal e = let z : _≡_ {A = ℕ} 0 1 = cc in omega arith
+  never-rests (Illegal why) e = let z : _≡_ {A = ℕ} 0 1 = cc in omega arith
 
   -- so at rest means that the control word is
   pub rests-at : dueIn f queue m ≡ rests r → control.standing (controlOf m) ≡ Resting r

@@ -1,6 +1,6 @@
 -- Document 01, One run: a run ends Off, Held, Empty, Raised or Cut, and each says what it should.
 -- Assumes nothing.
-use mathlib.Core.Path.{_≡_, refl, sym, ap, _∙_}
+use mathlib.Core.Path.{_≡_, refl, sym, ap, ap₂, _∙_}
 use mathlib.Core.Bool.{Bool, true, false}
 use mathlib.Core.List.{List}
 use mathlib.Core.Logic.{_⊎_, inl, inr}
@@ -13,11 +13,14 @@ use Rattle.control.specs.Control as control
 use Rattle.control.specs.declared.Rest.{Rest}
 use Rattle.control.specs.declared.Rest.the-variants.{Off as Rest·Off, Held as Rest·Held, Empty as Rest·Empty}
 use Rattle.control.specs.declared.Standing.the-variants.{Resting, Open}
+use Rattle.control_stores.specs.Stores as control-stores
 use Rattle.commands.specs.declared.Features.{Features}
 use Rattle.commands.specs.declared.Decoded.the-variants.{Illegal}
+use Rattle.commands.specs.Decoding.{decodeAt}
+use Rattle.commands.specs.declared.Reason.{Reason}
 use Rattle.image.specs.Image.{controlOf}
 use Rattle.image.proofs.Checks.{Accepts}
-use Rattle.due.specs.Due.{Remove, Consume, Raise}
+use Rattle.due.specs.Due.{Remove, Consume, Raise, raisingAt}
 use Rattle.runs.specs.declared.End.{End}
 use Rattle.runs.specs.declared.End.the-variants.{Off, Held, Empty, Raised, Cut}
 use Rattle.runs.specs.Running.{Out, Next, rests, stores, last, next, runBy, endOf, dueIn, run}
@@ -28,14 +31,15 @@ use Rattle.promises.proofs.Sums.{cut-means}
 use Rattle.promises.proofs.Cases.{rests-at, open-stores}
 use Rattle.promises.proofs.Accepted.{store-accepted}
 use Rattle.promises.proofs.Finding.{found-after}
-use Rattle.promises.proofs.RunCalls.{raised-by, raised-left}
+use Rattle.promises.proofs.IllegalCommands.{raised-slot}
+use Rattle.promises.proofs.RunCalls.{raised-run, error-tells}
 
 -- a rest is known by its end
 abbrev restOf : End → Rest
 restOf Off = Rest·Off
 restOf Held = Rest·Held
 restOf Empty = Rest·Empty
-restOf Raised = Rest·Empty
+restOf (Raised told) = Rest·Empty
 restOf Cut = Rest·Empty
 
 rest-of-end : (r : Rest) → restOf (endOf r) ≡ r
@@ -63,7 +67,7 @@ module _ {M : Type 0} (f : M → Next M) (r : Rest) where
   left-next k m (rests r′) same ih e = same ∙ ap rests (same-rest r′ r e)
   left-next k m (stores Remove m′) same ih e = ih m′ e
   left-next k m (stores (Consume y) m′) same ih e = ih m′ e
-  left-next k m (stores Raise m′) same ih e = absurd (rest-unraised r (sym e))
+  left-next k m (stores (Raise told) m′) same ih e = absurd (rest-unraised r told (sym e))
 
   pub rest-left : (k : ℕ) (m : M) → runBy f k m .ran .end ≡ endOf r → f (runBy f k m .memory) ≡ rests r
   unfolding runBy
@@ -96,6 +100,9 @@ empty-word : (w : ℕ) → Reading (eqb (control.cmdqen w) 0) (control.active w)
 empty-word w (is-empty a b c) =
     record { enabled = eqb-false (control.cmdqen w) 0 a; quiet = b; none-waits = eqb-true (control.rd w) (control.wr w) c }
 
+same-reason : {a b : Reason} → Illegal a ≡ Illegal b → a ≡ b
+same-reason e = cc
+
 module _ (f : Features) (queue : List ℕ) (n : ℕ) where
   at-rest : (r : Rest) (k : ℕ) (m : List ℕ) → run f queue k m .ran .end ≡ endOf r
       → Reading (eqb (control.cmdqen (controlOf (run f queue k m .memory))) 0) (control.active (controlOf (run f queue k m .memory))) (eqb (control.rd (controlOf (run f queue k m .memory))) (control.wr (controlOf (run f queue k m .memory)))) r
@@ -110,26 +117,31 @@ module _ (f : Features) (queue : List ℕ) (n : ℕ) where
       by-end Off e = off-word (controlOf (run f queue k m .memory)) (at-rest Rest·Off k m e)
       by-end Held e = held-word (controlOf (run f queue k m .memory)) (at-rest Rest·Held k m e)
       by-end Empty e = empty-word (controlOf (run f queue k m .memory)) (at-rest Rest·Empty k m e)
-      by-end Raised e =
-          let r = raised-by (dueIn f queue) (λ x. Accepts x n) (store-accepted f queue n) k m a e in
-          raised-left f queue n (r .before) (run f queue k m .memory) (r .held-before) (r .was-due)
+      by-end (Raised told) e = raised-run f queue n told k m a e .is-raised
       by-end Cut e = cut-means (dueIn f queue) k m e
 
   -- CERROR_ILL the other way round: a run that comes to an illegal command raises the error there, if it may still store
-  pub comes-to-illegal : (k : ℕ) (m : List ℕ) → Accepts m n
+  pub comes-to-illegal : (why : Reason) (k : ℕ) (m : List ℕ) → Accepts m n
       → control.standing (advanced f queue (run f queue k m .ran .consumed) (controlOf m)) ≡ Open
-      → commandAt f queue (controlOf m) (run f queue k m .ran .consumed) ≡ Illegal
-      → (run f queue k m .ran .end ≡ Raised) ⊎ ((run f queue k m .ran .end ≡ Cut) × (run f queue k m .ran .stores ≡ k))
-  comes-to-illegal k m a on illegal = by-end (run f queue k m .ran .end) refl
+      → commandAt f queue (controlOf m) (run f queue k m .ran .consumed) ≡ Illegal why
+      → (run f queue k m .ran .end ≡ Raised (raisingAt why (advanced f queue (run f queue k m .ran .consumed) (controlOf m)))) ⊎ ((run f queue k m .ran .end ≡ Cut) × (run f queue k m .ran .stores ≡ k))
+  comes-to-illegal why k m a on illegal = by-end (run f queue k m .ran .end) refl
     where
       never : (r : Rest) → run f queue k m .ran .end ≡ endOf r → closing (endOf r) (advanced f queue (run f queue k m .ran .consumed) (controlOf m)) ≡ advanced f queue (run f queue k m .ran .consumed) (controlOf m) → ⊥
       never r e same =
           let word : controlOf (run f queue k m .memory) ≡ advanced f queue (run f queue k m .ran .consumed) (controlOf m) = rw e at (found-after f queue n k m a .control-word) ∙ same in
           open-stores f queue (run f queue k m .memory) r (ap control.standing word ∙ on) (rest-left (dueIn f queue) r k m e)
 
-      by-end : (e : End) → run f queue k m .ran .end ≡ e → (run f queue k m .ran .end ≡ Raised) ⊎ ((run f queue k m .ran .end ≡ Cut) × (run f queue k m .ran .stores ≡ k))
+      by-end : (e : End) → run f queue k m .ran .end ≡ e
+          → (run f queue k m .ran .end ≡ Raised (raisingAt why (advanced f queue (run f queue k m .ran .consumed) (controlOf m)))) ⊎ ((run f queue k m .ran .end ≡ Cut) × (run f queue k m .ran .stores ≡ k))
       by-end Off e = absurd (never Rest·Off e refl)
       by-end Held e = absurd (never Rest·Held e refl)
       by-end Empty e = absurd (never Rest·Empty e refl)
-      by-end Raised e = inl e
+      by-end (Raised told) e =
+          let w = advanced f queue (run f queue k m .ran .consumed) (controlOf m) in
+          let t = error-tells f queue n told k m a e in
+          let word : controlOf (run f queue k m .memory) ≡ control-stores.raised w = rw e at (found-after f queue n k m a .control-word) in
+          let slot : control.slot (controlOf (run f queue k m .memory)) ≡ control.slot w = ap control.slot word ∙ raised-slot w in
+          let same : told .why ≡ why = same-reason (sym (t .reason) ∙ ap (λ (s : ℕ). decodeAt f queue s) slot ∙ illegal) in
+          inl (e ∙ ap Raised (ap₂ (λ (a : Reason) (b : ℕ). record { why = a; slot = b }) same (t .slot ∙ slot)))
       by-end Cut e = inr (e, cut-means (dueIn f queue) k m e .all)

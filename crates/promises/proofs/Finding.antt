@@ -22,6 +22,7 @@ use Rattle.control.specs.declared.Rest.the-variants.{Off as Rest·Off, Held as 
 use Rattle.control_stores.specs.Stores as control-stores
 use Rattle.commands.specs.declared.Features.{Features}
 use Rattle.commands.specs.declared.Command.{Command}
+use Rattle.commands.specs.declared.Reason.{Reason}
 use Rattle.commands.specs.declared.Decoded.{Decoded}
 use Rattle.commands.specs.declared.Decoded.the-variants.{Legal, Illegal}
 use Rattle.commands.specs.Decoding.{decodeAt, isIllegal}
@@ -32,7 +33,7 @@ use Rattle.rows.specs.Rows.{isEmpty}
 use Rattle.image.specs.Image.{rowsIn, controlOf, rowAt}
 use Rattle.image.proofs.Checks.{Accepts, rows-are}
 use Rattle.image.proofs.AfterStores.{cleared, cleared-control, cleared-other, row-kept, InRow}
-use Rattle.due.specs.Due.{What, Remove, Consume, Raise, scopedAt, scan, afterCommand, atRd}
+use Rattle.due.specs.Due.{What, Remove, Consume, Raise, scopedAt, scan, afterCommand, raisingAt, atRd}
 use Rattle.due.proofs.Scans.{gone as gone-now, others as others-scoped}
 use Rattle.runs.specs.declared.End.{End}
 use Rattle.runs.specs.declared.End.the-variants.{Off, Held, Empty, Raised, Cut}
@@ -55,7 +56,7 @@ module _ (f : Features) (queue : List ℕ) where
       let word = cleared-control m i in
       rw (what, stored, zero-add) (ih (cleared m i) (ap control.standing word ∙ d .open-for-it) (ap (λ (x : ℕ). decodeAt f queue (control.slot x)) word ∙ legal))
   reaches-by k m m′ w c legal ih d (consumes c′ legal′ nothing what stored) = rw what (inl (omega arith))
-  reaches-by k m m′ w c legal ih d (raises illegal what stored) = let z : _≡_ {A = ℕ} 0 1 = cc in absurd (omega arith)
+  reaches-by k m m′ w c legal ih d (raises why illegal what stored) = let z : _≡_ {A = ℕ} 0 1 = cc in absurd (omega arith)
 
   reaches-next : (k : ℕ) (m : List ℕ) (c : Command) (d : Next (List ℕ)) → dueIn f queue m ≡ d → control.standing (controlOf m) ≡ Open → atRd f queue m ≡ Legal c
       → ((m″ : List ℕ) → control.standing (controlOf m″) ≡ Open → atRd f queue m″ ≡ Legal c → Reaches (run f queue k m″))
@@ -92,9 +93,10 @@ module _ (f : Features) (queue : List ℕ) (n : ℕ) where
   rest-still Rest·Empty m = still Empty m refl (λ r. omega (arith, r))
 
   -- the error was raised
-  raised-found : (m : List ℕ) → 0 < length m → atRd f queue m ≡ Illegal → Found f queue n 0 Raised m (set m 0 (control-stores.raised (controlOf m)))
+  raised-found : (why : Reason) (m : List ℕ) → 0 < length m → atRd f queue m ≡ Illegal why
+      → Found f queue n 0 (Raised (raisingAt why (controlOf m))) m (set m 0 (control-stores.raised (controlOf m)))
   unfolding advanced
-  raised-found m room illegal =
+  raised-found why m room illegal =
       let v = control-stores.raised (controlOf m) in
       record {
         control-word = getD-set-same m 0 v 0 room;
@@ -226,7 +228,7 @@ module _ (f : Features) (queue : List ℕ) (n : ℕ) where
   by-case k m m′ w a e ih d (consumes c legal nothing what stored) =
       let accepted = rw stored at (store-accepted f queue n m m′ w a e) in
       rw (what, stored, one-add) (after-consume m _ _ _ c a legal nothing (ih _ accepted))
-  by-case k m m′ w a e ih d (raises illegal what stored) = rw (what, stored) (raised-found m (omega (arith, a .size .words)) illegal)
+  by-case k m m′ w a e ih d (raises why illegal what stored) = rw (what, stored) (raised-found why m (omega (arith, a .size .words)) illegal)
 
   by-next : (k : ℕ) (m : List ℕ) (d : Next (List ℕ)) → dueIn f queue m ≡ d → Accepts m n → ((m″ : List ℕ) → Accepts m″ n → After m″ (run f queue k m″)) → After m (next (run f queue k) d m)
   by-next k m (rests r) e a ih = rest-still r m

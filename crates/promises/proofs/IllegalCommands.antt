@@ -20,8 +20,9 @@ use Rattle.control_stores.proofs.AfterStores.{raises, raised-keeps, raised-acti
 use Rattle.commands.specs.declared.Features.{Features}
 use Rattle.commands.specs.declared.Decoded.the-variants.{Illegal}
 use Rattle.commands.specs.Decoding.{decodeAt}
+use Rattle.commands.specs.declared.Reason.{Reason}
 use Rattle.image.specs.Image.{controlOf}
-use Rattle.due.specs.Due.{Raise, dueFor, atRd, due}
+use Rattle.due.specs.Due.{Raise, dueFor, atRd, due, raisingAt}
 use Rattle.runs.specs.declared.End.the-variants.{Off, Held, Raised, Cut}
 use Rattle.runs.specs.Running.{rests, stores, rested, plus, runBy, dueIn, run}
 use Rattle.runs.proofs.Turns.{run-rests, due-rests}
@@ -43,16 +44,18 @@ module _ (f : Features) (queue m : List ℕ) where
   abbrev raisedMemory : List ℕ
   raisedMemory = set m 0 (control-stores.raised (controlOf m))
 
-  is-raise : control.standing (controlOf m) ≡ Open → atRd f queue m ≡ Illegal → dueIn f queue m ≡ stores Raise raisedMemory
+  is-raise : {why : Reason} → control.standing (controlOf m) ≡ Open → atRd f queue m ≡ Illegal why
+      → dueIn f queue m ≡ stores (Raise (raisingAt why (controlOf m))) raisedMemory
   unfolding due dueFor
   is-raise on illegal = rw (on, illegal)
 
-  -- an illegal command at RD: one store, ERR and GERROR, and the run ends; with no allowance it is cut
-  pub illegal-raises : (k : ℕ) → control.standing (controlOf m) ≡ Open → atRd f queue m ≡ Illegal → run f queue (suc k) m ≡ plus 0 1 0 0 (rested Raised raisedMemory)
+  -- an illegal command at RD: one store, ERR and GERROR, and the run ends with its reason and slot; with no allowance it is cut
+  pub illegal-raises : {why : Reason} (k : ℕ) → control.standing (controlOf m) ≡ Open → atRd f queue m ≡ Illegal why
+      → run f queue (suc k) m ≡ plus 0 1 0 0 (rested (Raised (raisingAt why (controlOf m))) raisedMemory)
   unfolding runBy
   illegal-raises k on illegal = rw (is-raise on illegal)
 
-  pub illegal-cut : control.standing (controlOf m) ≡ Open → atRd f queue m ≡ Illegal → run f queue 0 m ≡ rested Cut m
+  pub illegal-cut : {why : Reason} → control.standing (controlOf m) ≡ Open → atRd f queue m ≡ Illegal why → run f queue 0 m ≡ rested Cut m
   unfolding runBy
   illegal-cut on illegal = rw (is-raise on illegal)
 
@@ -92,9 +95,11 @@ module _ (w : ℕ) where
       (acknowledged-quiet r)
       (λ e. open-waits w on (sym (kept control.rdBits tt tt) ∙ e ∙ kept control.wrBits tt tt))
 
--- after acknowledging, the same illegal command raises again
-pub raises-again : (f : Features) (queue m : List ℕ) (k : ℕ) → 0 < length m → control.standing (controlOf m) ≡ Open → atRd f queue m ≡ Illegal
+-- after acknowledging, the same illegal command raises again, and tells the same
+pub raises-again : {why : Reason} (f : Features) (queue m : List ℕ) (k : ℕ) → 0 < length m → control.standing (controlOf m) ≡ Open → atRd f queue m ≡ Illegal why
     → (m₂ : List ℕ) → controlOf m₂ ≡ control-stores.acknowledged (control-stores.raised (controlOf m))
-    → run f queue (suc k) m₂ ≡ plus 0 1 0 0 (rested Raised (set m₂ 0 (control-stores.raised (controlOf m₂))))
-raises-again f queue m k room on illegal m₂ word =
-    illegal-raises f queue m₂ k (rw word (reopens (controlOf m) on)) (ap (λ (s : ℕ). decodeAt f queue s) (ap control.slot word ∙ same-slot (controlOf m)) ∙ illegal)
+    → run f queue (suc k) m₂ ≡ plus 0 1 0 0 (rested (Raised (raisingAt why (controlOf m))) (set m₂ 0 (control-stores.raised (controlOf m₂))))
+raises-again {why} f queue m k room on illegal m₂ word =
+    let same : control.slot (controlOf m₂) ≡ control.slot (controlOf m) = ap control.slot word ∙ same-slot (controlOf m) in
+    illegal-raises f queue m₂ k (rw word (reopens (controlOf m) on)) (ap (λ (s : ℕ). decodeAt f queue s) same ∙ illegal)
+    ∙ ap (λ (s : ℕ). plus 0 1 0 0 (rested (Raised (record { why = why; slot = s })) (set m₂ 0 (control-stores.raised (controlOf m₂))))) same

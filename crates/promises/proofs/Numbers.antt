@@ -33,6 +33,7 @@ use Rattle.fills.specs.Fills as fills
 use Rattle.control_calls.specs.Calls as control-calls
 use Rattle.transactions.specs.declared.Transaction.{Transaction}
 use Rattle.transactions.specs.Call as transactions
+use Rattle.due.specs.declared.Raising.{Raising}
 use Rattle.promises.specs.Numbers.{runNumber, fillNumber, doorbellNumber, acknowledgeNumber, enableNumber, translateNumber, Rule, first, some, ofImage, ofRun, ofDoorbell, ofAcknowledge, ofFill, ofTransaction, runEnds, fillEnds}
 
 -- 1, 2 and 3, and then the numbers of the call's own
@@ -109,12 +110,12 @@ module _ (m : List ℕ) where
       (λ n e. through translateNumber (not (attributes.wellFormed (t .attributes))) _ _)
 
 -- an end's number is its place among the ends, so that the number tells which it was
-pub run-ends : (e : End) → getD runEnds (running.endNumber e) Cut ≡ e
-run-ends Off = refl
-run-ends Held = refl
-run-ends Empty = refl
-run-ends Raised = refl
-run-ends Cut = refl
+pub run-ends : (told : Raising) (e : End) → ((t : Raising) → e ≡ Raised t → told ≡ t) → getD (runEnds told) (running.endNumber e) Cut ≡ e
+run-ends told Off g = refl
+run-ends told Held g = refl
+run-ends told Empty g = refl
+run-ends told (Raised t) g = ap Raised (g t refl)
+run-ends told Cut g = refl
 
 pub fill-ends : (e : FillEnd) → getD fillEnds (fills.endNumber e) Fill·Cut ≡ e
 fill-ends Filled = refl

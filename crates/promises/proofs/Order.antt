@@ -20,7 +20,7 @@ module _ {M : Type 0} (f : M → Next M) where
   count-next k m (rests r) ih = refl
   count-next k m (stores Remove m′) ih = rw one-add (ap suc (ih m′))
   count-next k m (stores (Consume y) m′) ih = rw one-add (ap suc (ih m′))
-  count-next k m (stores Raise m′) ih = refl
+  count-next k m (stores (Raise told) m′) ih = refl
 
   count-last : (m : M) (d : Next M) → 0 ≡ last d m .ran .stores
   count-last m (rests r) = refl
@@ -37,7 +37,7 @@ module _ {M : Type 0} (f : M → Next M) where
   order-next k j (rests r) ih = refl
   order-next k j (stores Remove m′) ih = ap (λ (l : List M). m′ ∷ l) (ih m′)
   order-next k j (stores (Consume y) m′) ih = ap (λ (l : List M). m′ ∷ l) (ih m′)
-  order-next k j (stores Raise m′) ih = ap (λ (l : List M). m′ ∷ l) (sym (take-nil k))
+  order-next k j (stores (Raise told) m′) ih = ap (λ (l : List M). m′ ∷ l) (sym (take-nil k))
 
   pub same-order : (k j : ℕ) (m : M) → passed f k m ≡ take k (passed f (k + j) m)
   unfolding passed
@@ -50,7 +50,7 @@ module _ {M : Type 0} (f : M → Next M) where
   left-next k m m₀ (rests r) ih = refl
   left-next k m m₀ (stores Remove m′) ih = rw one-add (ih m′)
   left-next k m m₀ (stores (Consume y) m′) ih = rw one-add (ih m′)
-  left-next k m m₀ (stores Raise m′) ih = refl
+  left-next k m m₀ (stores (Raise told) m′) ih = refl
 
   left-last : (m m₀ : M) (d : Next M) → last d m .memory ≡ getD (m ∷ []) (last d m .ran .stores) m₀
   left-last m m₀ (rests r) = refl

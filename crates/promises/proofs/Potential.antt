@@ -37,7 +37,7 @@ module _ {M : Type 0} (f : M → Next M) (P : M → Type 0) (keep : (m m′ : M)
   sum-next k m (rests r) same p ih = omega arith
   sum-next k m (stores Remove m′) same p ih = omega (arith, ih m′ (keep m m′ Remove p same), off m m′ Remove p same)
   sum-next k m (stores (Consume y) m′) same p ih = omega (arith, ih m′ (keep m m′ (Consume y) p same), off m m′ (Consume y) p same)
-  sum-next k m (stores Raise m′) same p ih = omega (arith, off m m′ Raise p same)
+  sum-next k m (stores (Raise told) m′) same p ih = omega (arith, off m m′ (Raise told) p same)
 
   sum-last : (m : M) (d : Next M) → u m ≡ u (last d m .memory) + last d m .ran .removed
   sum-last m (rests r) = omega arith
@@ -52,7 +52,7 @@ module _ {M : Type 0} (f : M → Next M) (P : M → Type 0) (keep : (m m′ : M)
 abbrev pub goesOn : What → Bool
 goesOn Remove = true
 goesOn (Consume y) = true
-goesOn Raise = false
+goesOn (Raise told) = false
 
 -- a number that each store takes at least one off, but the last
 module _ {M : Type 0} (f : M → Next M) (P : M → Type 0) (keep : (m m′ : M) (w : What) → P m → f m ≡ stores w m′ → P m′)
@@ -62,7 +62,7 @@ module _ {M : Type 0} (f : M → Next M) (P : M → Type 0) (keep : (m m′ : M)
   uncut-next k m (rests r) same p h ih cut = rest-uncut r cut
   uncut-next k m (stores Remove m′) same p h ih cut = ih m′ (keep m m′ Remove p same) (omega (arith, less m m′ Remove p same .1 refl)) cut
   uncut-next k m (stores (Consume y) m′) same p h ih cut = ih m′ (keep m m′ (Consume y) p same) (omega (arith, less m m′ (Consume y) p same .1 refl)) cut
-  uncut-next k m (stores Raise m′) same p h ih cut = let z : _≡_ {A = ℕ} 0 1 = cc in omega arith
+  uncut-next k m (stores (Raise told) m′) same p h ih cut = let z : _≡_ {A = ℕ} 0 1 = cc in omega arith
 
   uncut-last : (m : M) (d : Next M) → f m ≡ d → P m → u m ≤ 0 → last d m .ran .end ≡ Cut → ⊥
   uncut-last m (rests r) same p h cut = rest-uncut r cut
@@ -95,10 +95,10 @@ module _ (f : Features) (queue : List ℕ) (n : ℕ) where
       let word = getD-set-same m 0 v 0 (omega (arith, a .size .words)) in
       let less = after-distance (Legal c) (controlOf m) formed (open-waits (controlOf m) (d .open-for-it)) in
       rw (stored, what) (record { used = omega (arith, same); some = omega (arith, less); fewer = λ on. rw word (omega (arith, same, less)) })
-  by-case m m′ w a d (raises illegal what stored) =
+  by-case m m′ w a d (raises why illegal what stored) =
       let formed = control-formed.formed (controlOf m) (a .control-formed) in
       let same = used-kept m n 0 (control-stores.raised (controlOf m)) (λ i h e. omega arith) in
-      let less = after-distance Illegal (controlOf m) formed (open-waits (controlOf m) (d .open-for-it)) in
+      let less = after-distance (Illegal why) (controlOf m) formed (open-waits (controlOf m) (d .open-for-it)) in
       rw (stored, what) (record { used = omega (arith, same); some = omega (arith, less); fewer = λ on. clash on refl })
 
   moves : (m m′ : List ℕ) (w : What) → Accepts m n → dueIn f queue m ≡ stores w m′ → Moves m m′ w

@@ -9,6 +9,7 @@ use native.Mathlib.Omega.{arith}
 use Rattle.control.specs.declared.Rest.{Rest}
 use Rattle.control.specs.declared.Rest.the-variants.{Off as Rest·Off, Held as Rest·Held, Empty as Rest·Empty}
 use Rattle.due.specs.Due.{What, Remove, Consume, Raise}
+use Rattle.due.specs.declared.Raising.{Raising}
 use Rattle.runs.specs.declared.End.{End}
 use Rattle.runs.specs.declared.End.the-variants.{Off, Held, Empty, Raised, Cut}
 use Rattle.runs.specs.Running.{Out, Next, rests, stores, rested, plus, last, next, runBy, endOf}
@@ -22,10 +23,10 @@ rest-uncut Rest·Held e = let z : _≡_ {A = ℕ} 0 1 = cc in omega arith
 rest-uncut Rest·Empty e = let z : _≡_ {A = ℕ} 0 1 = cc in omega arith
 
 -- nor the error raised
-pub rest-unraised : (r : Rest) → endOf r ≡ Raised → ⊥
-rest-unraised Rest·Off e = let z : _≡_ {A = ℕ} 0 1 = cc in omega arith
-rest-unraised Rest·Held e = let z : _≡_ {A = ℕ} 0 1 = cc in omega arith
-rest-unraised Rest·Empty e = let z : _≡_ {A = ℕ} 0 1 = cc in omega arith
+pub rest-unraised : (r : Rest) (told : Raising) → endOf r ≡ Raised told → ⊥
+rest-unraised Rest·Off told e = let z : _≡_ {A = ℕ} 0 1 = cc in omega arith
+rest-unraised Rest·Held told e = let z : _≡_ {A = ℕ} 0 1 = cc in omega arith
+rest-unraised Rest·Empty told e = let z : _≡_ {A = ℕ} 0 1 = cc in omega arith
 
 module _ {M : Type 0} (f : M → Next M) (j : ℕ) where
   Resumes : ℕ → M → Type 0
@@ -41,7 +42,7 @@ module _ {M : Type 0} (f : M → Next M) (j : ℕ) where
   resume-next k m (rests r) ih cut = absurd (rest-uncut r cut)
   resume-next k m (stores Remove m′) ih cut = ap (plus 0 1 1 0) (ih m′ cut) ∙ plus-plus 0 1 1 0 _ _ _ _ _ _ _ _ _ refl refl refl refl
   resume-next k m (stores (Consume y) m′) ih cut = ap (plus 1 1 0 y) (ih m′ cut) ∙ plus-plus 1 1 0 y _ _ _ _ _ _ _ _ _ refl refl refl refl
-  resume-next k m (stores Raise m′) ih cut = let z : _≡_ {A = ℕ} 0 1 = cc in absurd (omega arith)
+  resume-next k m (stores (Raise told) m′) ih cut = let z : _≡_ {A = ℕ} 0 1 = cc in absurd (omega arith)
 
   -- one cut
   pub resume : (k : ℕ) (m : M) → runBy f k m .ran .end ≡ Cut → runBy f (k + j) m ≡ _then_ (runBy f k m) (runBy f j (runBy f k m .memory))
@@ -64,7 +65,7 @@ module _ {M : Type 0} (f : M → Next M) (j : ℕ) where
   enough-next k m (rests r) ih uncut = refl
   enough-next k m (stores Remove m′) ih uncut = ap (plus 0 1 1 0) (ih m′ uncut)
   enough-next k m (stores (Consume y) m′) ih uncut = ap (plus 1 1 0 y) (ih m′ uncut)
-  enough-next k m (stores Raise m′) ih uncut = refl
+  enough-next k m (stores (Raise told) m′) ih uncut = refl
 
   pub enough : (k : ℕ) (m : M) → (runBy f k m .ran .end ≡ Cut → ⊥) → runBy f (k + j) m ≡ runBy f k m
   unfolding runBy Enough

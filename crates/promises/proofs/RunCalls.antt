@@ -14,16 +14,19 @@ use Rattle.control.proofs.Openness.{open-enabled, open-quiet}
 use Rattle.control_stores.specs.Stores as control-stores
 use Rattle.control_stores.proofs.AfterStores.{raised-keeps, raised-active, raised-err}
 use Rattle.commands.specs.declared.Features.{Features}
+use Rattle.commands.specs.declared.Decoded.the-variants.{Illegal}
 use Rattle.commands.specs.Decoding.{decodeAt, isIllegal}
 use Rattle.image.specs.declared.Checked.{Checked}
 use Rattle.image.specs.declared.Checked.the-variants.{Accepted, Refused as NotAccepted}
 use Rattle.image.specs.Image.{check, controlOf}
 use Rattle.image.proofs.Checks.{Accepts, accepts}
-use Rattle.due.specs.Due.{What, Remove, Consume, Raise}
+use Rattle.due.specs.declared.Raising.{Raising}
+use Rattle.due.specs.Due.{What, Remove, Consume, Raise, raisingAt}
 use Rattle.runs.specs.declared.End.the-variants.{Held, Raised}
 use Rattle.runs.specs.declared.RunRefusal.the-variants.{BadQueue}
 use Rattle.runs.specs.Running.{Out, Next, rests, stores, rested, last, next, runBy, dueIn, run, endOf}
 use Rattle.runs.specs.Call.{queueGood, refused, done, call}
+use Rattle.promises.specs.Tells.{Tells}
 use Rattle.promises.specs.Ends.{IsRaised}
 use Rattle.promises.proofs.Accepted.{run-accepted, store-accepted}
 use Rattle.promises.proofs.Cases.{Case, removes, consumes, raises, is-due}
@@ -52,51 +55,75 @@ module _ (f : Features) (queue : List ℕ) (n : ℕ) where
 
 -- a run that ended Raised: its last store was the error's
 module _ {M : Type 0} (f : M → Next M) (P : M → Type 0) (keep : (m m′ : M) (w : What) → P m → f m ≡ stores w m′ → P m′) where
-  pub record RaisedBy (m′ : M) : Type 0 where
+  pub record RaisedBy (told : Raising) (m′ : M) : Type 0 where
     pub before : M
     pub held-before : P before
-    pub was-due : f before ≡ stores Raise m′
+    pub was-due : f before ≡ stores (Raise told) m′
 
-  by-last : (m : M) (d : Next M) → last d m .ran .end ≡ Raised → RaisedBy (last d m .memory)
-  by-last m (rests r) e = absurd (rest-unraised r e)
-  by-last m (stores w m′) e = let z : _≡_ {A = ℕ} 0 1 = cc in absurd (omega arith)
+  by-last : (told : Raising) (m : M) (d : Next M) → last d m .ran .end ≡ Raised told → RaisedBy told (last d m .memory)
+  by-last told m (rests r) e = absurd (rest-unraised r told e)
+  by-last told m (stores w m′) e = let z : _≡_ {A = ℕ} 0 1 = cc in absurd (omega arith)
 
-  by-next : (k : ℕ) (m : M) (d : Next M) → f m ≡ d → P m → ((m′ : M) → P m′ → runBy f k m′ .ran .end ≡ Raised → RaisedBy (runBy f k m′ .memory))
-      → next (runBy f k) d m .ran .end ≡ Raised → RaisedBy (next (runBy f k) d m .memory)
-  by-next k m (rests r) same p ih e = absurd (rest-unraised r e)
-  by-next k m (stores Remove m′) same p ih e = ih m′ (keep m m′ Remove p same) e
-  by-next k m (stores (Consume y) m′) same p ih e = ih m′ (keep m m′ (Consume y) p same) e
-  by-next k m (stores Raise m′) same p ih e = record { before = m; held-before = p; was-due = same }
+  by-next : (told : Raising) (k : ℕ) (m : M) (d : Next M) → f m ≡ d → P m
+      → ((m′ : M) → P m′ → runBy f k m′ .ran .end ≡ Raised told → RaisedBy told (runBy f k m′ .memory))
+      → next (runBy f k) d m .ran .end ≡ Raised told → RaisedBy told (next (runBy f k) d m .memory)
+  by-next told k m (rests r) same p ih e = absurd (rest-unraised r told e)
+  by-next told k m (stores Remove m′) same p ih e = ih m′ (keep m m′ Remove p same) e
+  by-next told k m (stores (Consume y) m′) same p ih e = ih m′ (keep m m′ (Consume y) p same) e
+  by-next told k m (stores (Raise t) m′) same p ih e =
+      let s : t ≡ told = cc in
+      record { before = m; held-before = p; was-due = same ∙ ap (λ (x : Raising). stores (Raise x) m′) s }
 
-  pub raised-by : (k : ℕ) (m : M) → P m → runBy f k m .ran .end ≡ Raised → RaisedBy (runBy f k m .memory)
+  pub raised-by : (told : Raising) (k : ℕ) (m : M) → P m → runBy f k m .ran .end ≡ Raised told → RaisedBy told (runBy f k m .memory)
   unfolding runBy
-  raised-by zero m p e = by-last m (f m) e
-  raised-by (suc k) m p e = by-next k m (f m) refl p (λ m′ q c. raised-by k m′ q c) e
+  raised-by told zero m p e = by-last told m (f m) e
+  raised-by told (suc k) m p e = by-next told k m (f m) refl p (λ m′ q c. raised-by told k m′ q c) e
 
 module _ (f : Features) (queue : List ℕ) (n : ℕ) where
-  -- what raising the error leaves
-  pub raised-left : (m m′ : List ℕ) → Accepts m n → dueIn f queue m ≡ stores Raise m′ → IsRaised f queue m′
-  raised-left m m′ a e = by-case (is-due f queue m Raise m′ e .kind)
+  -- what raising the error leaves, and what it tells
+  pub record Left (told : Raising) (m′ : List ℕ) : Type 0 where
+    pub is-raised : IsRaised f queue m′
+    pub tells : Tells f queue (controlOf m′) told
+
+  pub raised-left : (told : Raising) (m m′ : List ℕ) → Accepts m n → dueIn f queue m ≡ stores (Raise told) m′ → Left told m′
+  raised-left told m m′ a e = by-case (is-due f queue m (Raise told) m′ e .kind)
     where
       w : ℕ
       w = controlOf m
 
-      by-case : Case f queue m Raise m′ → IsRaised f queue m′
+      by-case : Case f queue m (Raise told) m′ → Left told m′
       by-case (removes c i legal low what stored) = let z : _≡_ {A = ℕ} 0 1 = cc in absurd (omega arith)
       by-case (consumes c legal nothing what stored) = let z : _≡_ {A = ℕ} 0 1 = cc in absurd (omega arith)
-      by-case (raises illegal what stored) =
-          let on = is-due f queue m Raise m′ e .open-for-it in
+      by-case (raises why illegal what stored) =
+          let on = is-due f queue m (Raise told) m′ e .open-for-it in
+          let same : told ≡ raisingAt why w = cc in
           let word : controlOf m′ ≡ control-stores.raised w = ap controlOf stored ∙ getD-set-same m 0 (control-stores.raised w) 0 (omega (arith, a .size .words)) in
-          record {
+          let slot : control.slot (controlOf m′) ≡ control.slot w = ap control.slot word ∙ raised-slot w in
+          let at-rd : decodeAt f queue (control.slot (controlOf m′)) ≡ Illegal why = ap (λ (s : ℕ). decodeAt f queue s) slot ∙ illegal in
+          let left : IsRaised f queue m′ = record {
             enabled = λ z. open-enabled w on (sym (raised-keeps w control.cmdqenBits tt) ∙ ap control.cmdqen (sym word) ∙ z);
             in-error = ap control.active word ∙ raised-active w (open-quiet w on);
             code = ap control.err word ∙ raised-err w;
-            illegal = ap isIllegal (ap (λ (x : ℕ). decodeAt f queue (control.slot x)) word ∙ ap (λ (s : ℕ). decodeAt f queue s) (raised-slot w) ∙ illegal);
-          }
+            illegal = ap isIllegal at-rd;
+          } in
+          let says : Tells f queue (controlOf m′) told = record {
+            reason = at-rd ∙ ap (λ (t : Raising). Illegal (t .why)) (sym same);
+            slot = ap (λ (t : Raising). t .slot) same ∙ sym slot;
+          } in
+          record { is-raised = left; tells = says }
+
+  -- where a run ends Raised, at every allowance
+  pub raised-run : (told : Raising) (k : ℕ) (m : List ℕ) → Accepts m n → run f queue k m .ran .end ≡ Raised told → Left told (run f queue k m .memory)
+  raised-run told k m a e =
+      let r = raised-by (dueIn f queue) (λ x. Accepts x n) (store-accepted f queue n) told k m a e in
+      raised-left told (r .before) (run f queue k m .memory) (r .held-before) (r .was-due)
+
+  -- Document 02, T-09: the error tells why the command that RD still names is illegal, and its slot
+  pub error-tells : (told : Raising) (k : ℕ) (m : List ℕ) → Accepts m n → run f queue k m .ran .end ≡ Raised told → Tells f queue (controlOf (run f queue k m .memory)) told
+  error-tells told k m a e = raised-run told k m a e .tells
 
   -- repeating a run that ended Raised: Held, and no word changes
-  pub raised-then-held : (k j : ℕ) (m : List ℕ) → Accepts m n → run f queue k m .ran .end ≡ Raised → run f queue j (run f queue k m .memory) ≡ rested Held (run f queue k m .memory)
-  raised-then-held k j m a e =
-      let r = raised-by (dueIn f queue) (λ x. Accepts x n) (store-accepted f queue n) k m a e in
-      let left = raised-left (r .before) (run f queue k m .memory) (r .held-before) (r .was-due) in
+  pub raised-then-held : (told : Raising) (k j : ℕ) (m : List ℕ) → Accepts m n → run f queue k m .ran .end ≡ Raised told → run f queue j (run f queue k m .memory) ≡ rested Held (run f queue k m .memory)
+  raised-then-held told k j m a e =
+      let left = raised-run told k m a e .is-raised in
       error-holds f queue (run f queue k m .memory) j (left .in-error) (left .enabled)

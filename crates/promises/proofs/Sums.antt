@@ -30,7 +30,7 @@ module _ {M : Type 0} (f : M → Next M) where
   adds-next k m (rests r) ih = omega (arith, rest-raise r)
   adds-next k m (stores Remove m′) ih = omega (arith, ih m′)
   adds-next k m (stores (Consume y) m′) ih = omega (arith, ih m′)
-  adds-next k m (stores Raise m′) ih = refl
+  adds-next k m (stores (Raise told) m′) ih = refl
 
   -- stores are rows removed plus commands consumed, plus one if Raised
   pub stores-add-up : (k : ℕ) (m : M) → runBy f k m .ran .stores ≡ runBy f k m .ran .removed + runBy f k m .ran .consumed + raise (runBy f k m .ran .end)
@@ -47,7 +47,7 @@ module _ {M : Type 0} (f : M → Next M) where
   within-next k m (rests r) ih = omega arith
   within-next k m (stores Remove m′) ih = omega (arith, ih m′)
   within-next k m (stores (Consume y) m′) ih = omega (arith, ih m′)
-  within-next k m (stores Raise m′) ih = omega arith
+  within-next k m (stores (Raise told) m′) ih = omega arith
 
   pub within-allowance : (k : ℕ) (m : M) → runBy f k m .ran .stores ≤ k
   unfolding runBy
@@ -65,7 +65,7 @@ module _ {M : Type 0} (f : M → Next M) where
   spent-next k m (rests r) ih cut = absurd (rest-uncut r cut)
   spent-next k m (stores Remove m′) ih cut = one-more k 0 1 0 (runBy f k m′) (ih m′ cut)
   spent-next k m (stores (Consume y) m′) ih cut = one-more k 1 0 y (runBy f k m′) (ih m′ cut)
-  spent-next k m (stores Raise m′) ih cut = let z : _≡_ {A = ℕ} 0 1 = cc in absurd (omega arith)
+  spent-next k m (stores (Raise told) m′) ih cut = let z : _≡_ {A = ℕ} 0 1 = cc in absurd (omega arith)
 
   -- Cut: the allowance is spent, and a store was due
   pub cut-means : (k : ℕ) (m : M) → runBy f k m .ran .end ≡ Cut → Spent f k (runBy f k m)
@@ -83,7 +83,7 @@ module _ {M : Type 0} (f : M → Next M) (P : M → Type 0) (keep : (m m′ : M)
   keep-next k m (rests r) same ih p = p
   keep-next k m (stores Remove m′) same ih p = ih m′ (keep m m′ Remove p same)
   keep-next k m (stores (Consume y) m′) same ih p = ih m′ (keep m m′ (Consume y) p same)
-  keep-next k m (stores Raise m′) same ih p = keep m m′ Raise p same
+  keep-next k m (stores (Raise told) m′) same ih p = keep m m′ (Raise told) p same
 
   pub run-keeps : (k : ℕ) (m : M) → P m → P (runBy f k m .memory)
   unfolding runBy

@@ -24,7 +24,7 @@ truth b = pick b 1 0
 
 -- a command as its code and its fields, an illegal one as nothing
 abbrev spelled : Decoded → List ℕ
-spelled Illegal = []
+spelled (Illegal why) = []
 spelled (Legal PrefetchConfig) = 0x01 ∷ []
 spelled (Legal PrefetchAddr) = 0x02 ∷ []
 spelled (Legal (CfgiSte stream leaf)) = 0x03 ∷ stream ∷ truth leaf ∷ []
@@ -42,15 +42,15 @@ spelled (Legal (Sync cs)) = 0x46 ∷ cs ∷ []
 
 -- whether it is counted, whether it can remove no row, and whether it removes one; an illegal one does none of it
 abbrev counted : Decoded → ℕ
-counted Illegal = 0
+counted (Illegal why) = 0
 counted (Legal c) = truth (isCounted c)
 
 abbrev idling : Features → Decoded → ℕ
-idling f Illegal = 0
+idling f (Illegal why) = 0
 idling f (Legal c) = truth (idle f c)
 
 abbrev removing : Features → Decoded → Row → ℕ
-removing f Illegal row = 0
+removing f (Illegal why) row = 0
 removing f (Legal c) row = truth (inScope f c row)
 
 abbrev allYes : Features

@@ -44,5 +44,5 @@ abbrev pub Means : Features → List ℕ → ℕ → End → Out (List ℕ) → 
 Means f queue k Off o = IsOff (controlOf (o .memory))
 Means f queue k Held o = IsHeld (controlOf (o .memory))
 Means f queue k Empty o = IsEmpty (controlOf (o .memory))
-Means f queue k Raised o = IsRaised f queue (o .memory)
+Means f queue k (Raised told) o = IsRaised f queue (o .memory)
 Means f queue k Cut o = Spent (dueIn f queue) k o

@@ -2,6 +2,7 @@ pub mod Places
 pub mod Bench
 pub mod Cuts
 pub mod Sums
+pub mod Tells
 pub mod Found
 pub mod Swept
 pub mod Ends

@@ -34,6 +34,7 @@ use Rattle.transactions.specs.declared.Transaction.{Transaction}
 use Rattle.transactions.specs.declared.TransactionAnswer.{TransactionAnswer}
 use Rattle.transactions.specs.declared.TransactionAnswer.the-variants.{Refused as NotTranslated, Done as DidTranslate}
 use Rattle.transactions.specs.Call as transactions
+use Rattle.due.specs.declared.Raising.{Raising}
 
 -- the number of an answer: its refusal's, or 0 where the call was carried out
 abbrev pub runNumber : RunAnswer → ℕ
@@ -102,8 +103,8 @@ abbrev pub ofTransaction : Transaction → List Rule
 ofTransaction t = record { number = 10; applies = not (attributes.wellFormed (t .attributes)) } ∷ []
 
 -- the ends in the order of their numbers
-abbrev pub runEnds : List End
-runEnds = Off ∷ Held ∷ Empty ∷ Raised ∷ Cut ∷ []
+abbrev pub runEnds : Raising → List End
+runEnds told = Off ∷ Held ∷ Empty ∷ Raised told ∷ Cut ∷ []
 
 abbrev pub fillEnds : List FillEnd
 fillEnds = Filled ∷ Fill·Cut ∷ []

@@ -9,7 +9,7 @@ abbrev pub passedNext : {M : Type 0} → (M → List M) → Next M → List M
 passedNext go (rests r) = []
 passedNext go (stores Remove m′) = m′ ∷ go m′
 passedNext go (stores (Consume y) m′) = m′ ∷ go m′
-passedNext go (stores Raise m′) = m′ ∷ []
+passedNext go (stores (Raise told) m′) = m′ ∷ []
 
 -- the memories that a run passes through, one after each of its stores
 unfoldable pub passed : {M : Type 0} → (M → Next M) → ℕ → M → List M

@@ -10,11 +10,11 @@ abbrev pub raise : End → ℕ
 raise Off = 0
 raise Held = 0
 raise Empty = 0
-raise Raised = 1
+raise (Raised told) = 1
 raise Cut = 0
 
 -- how many rows a store removes
 abbrev pub removedBy : What → ℕ
 removedBy Remove = 1
 removedBy (Consume y) = 0
-removedBy Raise = 0
+removedBy (Raise told) = 0

@@ -23,6 +23,7 @@ use Rattle.commands.specs.Decoding.{decodeAt, syncsOf}
 use Rattle.image.specs.Image.{maxRows, rowsIn, controlOf}
 use Rattle.image.proofs.AfterStores.{cleared, cleared-control}
 use Rattle.due.specs.declared.Stepped.{Stepped}
+use Rattle.due.specs.declared.Raising.{Raising}
 use Rattle.due.specs.declared.Stepped.the-variants.{Removed, Consumed, DidRaise}
 use Rattle.due.specs.Due.{Due, Rests, Stores, scan, byScan, afterCommand, noneBelow, dueFor, due, Ready, Made}
 use Rattle.due.proofs.Scans.{lowest-scoped, goes-on}
@@ -78,7 +79,7 @@ cut-scan c w Nothing m = refl
 pub due-cuts : (f : Features) (d : Decoded) (m : List ℕ) → last (nextOf (dueFor f d m) m) m ≡ rested Cut m
 unfolding dueFor
 due-cuts f (Legal c) m = cut-scan c (controlOf m) (scan f c m (rowsIn m) 0) m
-due-cuts f Illegal m = refl
+due-cuts f (Illegal why) m = refl
 
 -- what every turn keeps: lengths, and that the counts fit
 pub record Kept (A n : ℕ) (queue m : List ℕ) (left c s r y : ℕ) : Type 0 where
@@ -121,11 +122,12 @@ module _ {m₀ queue : List ℕ} {f : Features} {A left₀ c₀ s₀ r₀ y₀ w
         ∙ ap (plus c s r y)
         (run-next (dueIn f queue) m left (omega arith) ∙ ap (λ (z : Next (List ℕ)). next (run f queue (left - 1)) z m) (is-due ∙ ap (λ (z : Due). nextOf z m) e))
 
-    pub go-raise : {m′ : List ℕ} {did : Stepped} → Made f d m m′ did → did ≡ DidRaise → plus c₀ s₀ r₀ y₀ (run f queue left₀ m₀) ≡ plus c (s + 1) r y (rested Raised m′)
-    go-raise made e =
+    pub go-raise : {m′ : List ℕ} {did : Stepped} {told : Raising} → Made f d m m′ did → did ≡ DidRaise told
+        → plus c₀ s₀ r₀ y₀ (run f queue left₀ m₀) ≡ plus c (s + 1) r y (rested (Raised told) m′)
+    go-raise {told = told} made e =
         let t = rw e at made in
         turned _ (t .is-due) ∙ plus-plus c s r y 0 1 0 0 c (s + 1) r y _ (omega arith) refl (omega arith) (omega arith)
-        ∙ ap (λ (x : List ℕ). plus c (s + 1) r y (rested Raised x)) (sym (t .stored))
+        ∙ ap (λ (x : List ℕ). plus c (s + 1) r y (rested (Raised told) x)) (sym (t .stored))
 
     pub go-consume : {m′ : List ℕ} {did : Stepped} → Made f d m m′ did → did ≡ Consumed → plus c₀ s₀ r₀ y₀ (run f queue left₀ m₀) ≡ plus (c + 1) (s + 1) r (y + sync) (run f queue (left - 1) m′)
     go-consume made e =
@@ -231,15 +233,15 @@ module _ {M queue : List ℕ} {f : Features} {A : ℕ} {m₀ : List ℕ} {left�
     where
       first : (x : Decoded) → noneBelow f x m₀ 0
       first (Legal c) = rw sub-zero
-      first Illegal = refl
+      first (Illegal why) = refl
 
   module _ {w : ℕ} {d : Decoded} {sync : ℕ} {m : List ℕ} {left c s r y from : ℕ} (now : Rows m₀ queue f A left₀ c₀ s₀ r₀ y₀ w d sync m left c s r y from) where
     pub cut-end : left ≡ 0 → Does f queue A M m (record { end = Cut; consumed = c; stores = s; removed = r; syncs = y })
     cut-end z = ended f queue A M m Cut c s r y (turns .so-far ∙ go-cut now z)
 
-    pub raise-end : {m′ : List ℕ} {did : Stepped} → (left ≡ 0 → ⊥) → Made f d m m′ did → did ≡ DidRaise
-        → Does f queue A M m′ (record { end = Raised; consumed = c; stores = s + 1; removed = r; syncs = y })
-    raise-end {m′} some made e = ended f queue A M m′ Raised c (s + 1) r y (turns .so-far ∙ go-raise now some made e)
+    pub raise-end : {m′ : List ℕ} {did : Stepped} {told : Raising} → (left ≡ 0 → ⊥) → Made f d m m′ did → did ≡ DidRaise told
+        → Does f queue A M m′ (record { end = Raised told; consumed = c; stores = s + 1; removed = r; syncs = y })
+    raise-end {m′} {told = told} some made e = ended f queue A M m′ (Raised told) c (s + 1) r y (turns .so-far ∙ go-raise now some made e)
 
     pub consumed-on : {m′ : List ℕ} {did : Stepped} → (left ≡ 0 → ⊥) → Made f d m m′ did → did ≡ Consumed
         → Turns M queue f A m′ (left - 1) (c + 1) (s + 1) r (y + sync)

@@ -24,7 +24,7 @@ abbrev pub endNumber : End → ℕ
 endNumber Off = 0
 endNumber Held = 1
 endNumber Empty = 2
-endNumber Raised = 3
+endNumber (Raised told) = 3
 endNumber Cut = 4
 
 -- what is due in a memory of any kind: nothing, or a store, with the memory after it
@@ -63,7 +63,7 @@ abbrev pub next : {M : Type 0} → (M → Out M) → Next M → M → Out M
 next go (rests rest) m = rested (endOf rest) m
 next go (stores Remove m′) m = plus 0 1 1 0 (go m′)
 next go (stores (Consume y) m′) m = plus 1 1 0 y (go m′)
-next go (stores Raise m′) m = plus 0 1 0 0 (rested Raised m′)
+next go (stores (Raise told) m′) m = plus 0 1 0 0 (rested (Raised told) m′)
 
 -- a run by whatever says what is due: the allowance is how often it may store
 unfoldable pub runBy : {M : Type 0} → (M → Next M) → ℕ → M → Out M

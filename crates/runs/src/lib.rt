@@ -2,17 +2,18 @@
 mod running;
 
 use commands::Features;
+use due::Raising;
 use image::Checked;
 use image::Refusal;
 ghost use Rattle.words.specs.Outcomes.{Gives};
 ghost use Rattle.runs.specs.Call.{call};
 
-// Why a run ended.
+// Why a run ended; the error that it raised tells its reason and its slot.
 pub enum End {
     Off,
     Held,
     Empty,
-    Raised,
+    Raised(Raising),
     Cut,
 }
 

@@ -74,8 +74,8 @@ pub fn go(kept: &mut [u64], queue: &[u8], f: Features, allowance: u64) -> Ran
                     syncs += sync;
                     break 'rows;
                 }
-                Stepped::DidRaise => {
-                    break 'run End::Raised;
+                Stepped::DidRaise(told) => {
+                    break 'run End::Raised(told);
                 }
             }
         }

@@ -28,8 +28,8 @@ pub fn label(said: bool) {
     }
 }
 
-// What a digit stands for: a letter is nine more than its low four bits.
-fn digit(b: u8) -> u64
+// What a hexadecimal digit stands for: a letter is nine more than its low four bits.
+pub fn digit(b: u8) -> u64
     ensures { λ r. ⌜ r < 16 ⌝ }
 {
     let d = b as u64;

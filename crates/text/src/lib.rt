@@ -2,6 +2,7 @@
 mod input;
 mod output;
 
+pub use input::digit;
 pub use input::eight;
 pub use input::label;
 pub use input::next;

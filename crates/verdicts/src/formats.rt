@@ -9,6 +9,7 @@ use crate::show::number;
 use crate::show::say;
 use commands::Decoded;
 use commands::Features;
+use commands::Reason;
 use commands::features_of;
 ghost use Prim.Native.Nat.{_<_, _≤_};
 
@@ -24,15 +25,35 @@ pub fn all() {
 fn is_legal(f: Features, lo: u64, hi: u64) -> bool {
     match commands::decode(f, lo, hi) {
         Decoded::Legal(_) => true,
-        Decoded::Illegal => false,
+        Decoded::Illegal(_) => false,
     }
 }
 
 fn verdict(f: Features, lo: u64) {
-    if is_legal(f, lo, 0) {
-        say(b" legal");
-    } else {
-        say(b" illegal");
+    match commands::decode(f, lo, 0) {
+        Decoded::Legal(_) => say(b" legal"),
+        Decoded::Illegal(why) => reason(why),
+    }
+}
+
+fn reason(why: Reason) {
+    match why {
+        Reason::UnknownCode => say(b" unknown code"),
+        Reason::FeatureAbsent => say(b" feature absent"),
+        Reason::ReservedBit => say(b" Reserved bit"),
+        Reason::BadParameter => say(b" bad parameter"),
+    }
+}
+
+fn is_reserved(f: Features, lo: u64, hi: u64) -> bool {
+    match commands::decode(f, lo, hi) {
+        Decoded::Legal(_) => false,
+        Decoded::Illegal(why) => match why {
+            Reason::UnknownCode => false,
+            Reason::FeatureAbsent => false,
+            Reason::ReservedBit => true,
+            Reason::BadParameter => false,
+        },
     }
 }
 
@@ -51,22 +72,22 @@ fn known_codes(f: Features) {
     }
 }
 
-// The command that is only its code, with one more bit.
+// Whether one more bit in the command that is only its code is a Reserved one.
 fn with_bit(f: Features, c: u64, i: u64) -> bool
     requires { ⌜ i < 128 ⌝ }
 {
     if i < 64 {
-        is_legal(f, c | words::power(i), 0)
+        is_reserved(f, c | words::power(i), 0)
     } else {
-        is_legal(f, c, words::power(i - 64))
+        is_reserved(f, c, words::power(i - 64))
     }
 }
 
-// Whether bit i makes the command illegal. A range that begins here is opened, one that ended above is closed.
+// Whether bit i is Reserved. A range that begins here is opened, one that ended above is closed.
 fn reserved_bit(f: Features, c: u64, i: u64, within: bool) -> bool
     requires { ⌜ i < 128 ⌝ }
 {
-    let bad = !with_bit(f, c, i);
+    let bad = with_bit(f, c, i);
     if bad & !within {
         say(b" ");
         number(i);
@@ -78,7 +99,7 @@ fn reserved_bit(f: Features, c: u64, i: u64, within: bool) -> bool
     bad
 }
 
-// The ranges of bits, from the top down to 8, any of which makes the command illegal.
+// The ranges of Reserved bits, from the top down to 8.
 fn reserved_bits(f: Features, c: u64) -> bool {
     let mut i: u64 = 128;
     let mut within = false;

@@ -1,4 +1,4 @@
-// The commands that Linux guests sent, from data/: how many of each code are legal, and how many are not.
+// The commands that Linux guests sent, from data/: how many of each code are legal, and how many are not, by reason.
 use crate::features::ASID16;
 use crate::features::S1P;
 use crate::features::S2P;
@@ -8,6 +8,7 @@ use crate::show::number;
 use crate::show::say;
 use commands::Decoded;
 use commands::Features;
+use commands::Reason;
 ghost use Prim.Native.Nat.{_+_, _*_, _≤_, _<_};
 ghost use lib.ListN.{length};
 
@@ -27,20 +28,20 @@ pub fn all() {
     guest(b"linux-6.1-hyp.bin", stage1);
 }
 
-// Legal commands are counted at their code, illegal ones 256 places on.
+// Legal commands are counted at their code, illegal ones by their reason, each 256 places on.
 fn guest(path: &[u8], f: Features) {
     let fd = os::open_read(path);
     if fd < 0 {
         os::fail(path);
         return;
     }
-    let mut counts = [0u64; 512];
+    let mut counts = [0u64; 1280];
     chunks(fd, f, &mut counts);
     libc::close(fd);
     told(&counts);
 }
 
-fn chunks(fd: i32, f: Features, counts: &mut [u64; 512]) {
+fn chunks(fd: i32, f: Features, counts: &mut [u64; 1280]) {
     let mut k = 0;
     while k < CHUNKS {
         chunk(fd, f, &mut *counts);
@@ -48,13 +49,13 @@ fn chunks(fd: i32, f: Features, counts: &mut [u64; 512]) {
     }
 }
 
-fn chunk(fd: i32, f: Features, counts: &mut [u64; 512]) {
+fn chunk(fd: i32, f: Features, counts: &mut [u64; 1280]) {
     let mut buffer = io::buffer();
     let n = io::read_full(fd, &mut buffer);
     count(&buffer[..n], f, &mut *counts);
 }
 
-fn count(bytes: &[u8], f: Features, counts: &mut [u64; 512]) {
+fn count(bytes: &[u8], f: Features, counts: &mut [u64; 1280]) {
     let slots = bytes.len() / 16;
     let mut slot = 0;
     while slot < slots {
@@ -69,38 +70,74 @@ fn wide(x: u8) -> usize
     x as usize
 }
 
-fn count_one(bytes: &[u8], f: Features, slot: usize, counts: &mut [u64; 512])
+fn count_one(bytes: &[u8], f: Features, slot: usize, counts: &mut [u64; 1280])
     requires { ⌜ 16 * slot + 16 ≤ length (now bytes) ⌝ }
 {
     let c = wide(bytes[16 * slot]);
-    match commands::decode_at(f, bytes, slot) {
-        Decoded::Legal(_) => bump(&mut *counts, c),
-        Decoded::Illegal => bump(&mut *counts, 256 + c),
+    let column = column_of(commands::decode_at(f, bytes, slot));
+    bump(&mut *counts, 256 * column + c);
+}
+
+// 0 for a legal command, then the reasons in their order.
+fn column_of(d: Decoded) -> usize
+    ensures { λ r. ⌜ r < 5 ⌝ }
+{
+    match d {
+        Decoded::Legal(_) => 0,
+        Decoded::Illegal(why) => match why {
+            Reason::UnknownCode => 1,
+            Reason::FeatureAbsent => 2,
+            Reason::ReservedBit => 3,
+            Reason::BadParameter => 4,
+        },
     }
 }
 
-fn bump(counts: &mut [u64; 512], at: usize)
-    requires { ⌜ at < 512 ⌝ }
+fn bump(counts: &mut [u64; 1280], at: usize)
+    requires { ⌜ at < 1280 ⌝ }
 {
     counts[at] = std::num::wrapping_add_u64(counts[at], 1);
 }
 
-fn told(counts: &[u64; 512]) {
+fn told(counts: &[u64; 1280]) {
     let mut c = 0;
     while c < 256 {
-        told_one(c as u64, counts[c], counts[256 + c]);
+        told_one(
+            c as u64,
+            [
+                counts[c],
+                counts[256 + c],
+                counts[512 + c],
+                counts[768 + c],
+                counts[1024 + c],
+            ],
+        );
         c += 1;
     }
 }
 
-fn told_one(c: u64, legal: u64, illegal: u64) {
-    if (legal != 0) | (illegal != 0) {
+fn told_one(c: u64, counts: [u64; 5]) {
+    if (counts[0] != 0)
+        | (counts[1] != 0)
+        | (counts[2] != 0)
+        | (counts[3] != 0)
+        | (counts[4] != 0)
+    {
         say(b"  ");
         code(c);
         say(b": legal ");
-        number(legal);
-        say(b", illegal ");
-        number(illegal);
+        number(counts[0]);
+        told_reason(b", unknown code ", counts[1]);
+        told_reason(b", feature absent ", counts[2]);
+        told_reason(b", Reserved bit ", counts[3]);
+        told_reason(b", bad parameter ", counts[4]);
         say(b"\n");
+    }
+}
+
+fn told_reason(name: &[u8], n: u64) {
+    if n != 0 {
+        say(name);
+        number(n);
     }
 }

@@ -12,8 +12,8 @@ use borrow.Author.Tests.{eqb-true, eq-eqb}
 use Rattle.words.specs.Choice.{pick}
 use Rattle.words.specs.Parts.{isSet}
 use Rattle.words.specs.Ranges.{all, setOnly}
-use Rattle.words.proofs.Truth.{same-test, then-true, true-then}
-use Rattle.words.proofs.Table.{all-at, at-all}
+use Rattle.words.proofs.Truth.{clash, same-test, then-true, true-then}
+use Rattle.words.proofs.Table.{all-at, at-all, fails-somewhere}
 
 -- the bits of w lie under those of m
 abbrev Under : ℕ → ℕ → ℕ → Type 0
@@ -58,6 +58,14 @@ agree true b e = sym e
 agree false true e = e
 agree false false e = refl
 
+was-set : (a b : Bool) → (not a || b) ≡ false → a ≡ true
+was-set true b e = refl
+was-set false b e = clash refl e
+
+failed : (a b : Bool) → (not a || b) ≡ false → b ≡ false
+failed true b e = e
+failed false b e = clash refl e
+
 module _ (p : ℕ → Bool) where
   abbrev lies : ℕ → ℕ → Bool
   lies w i = not (isSet i w) || p i
@@ -70,6 +78,24 @@ module _ (p : ℕ → Bool) where
   pub read-back : (n w : ℕ) → ((i : ℕ) → i < n → isSet i w ≡ true → p i ≡ true) → setOnly n p w ≡ true
   unfolding setOnly
   read-back n w f = at-all n (lies w) (λ i h. true-then (isSet i w) (f i h))
+
+  -- a set bit that does not pass, where not each does
+  pub record Spoilt (n w : ℕ) : Type 0 where
+    pub bit : ℕ
+    pub within : bit < n
+    pub is-set : isSet bit w ≡ true
+    pub fails : p bit ≡ false
+
+  pub spoilt : (n w : ℕ) → setOnly n p w ≡ false → Spoilt n w
+  unfolding setOnly
+  spoilt n w e =
+      let at = fails-somewhere n (lies w) e in
+      record {
+        bit = at .at;
+        within = at .below;
+        is-set = was-set (isSet (at .at) w) (p (at .at)) (at .fails);
+        fails = failed (isSet (at .at) w) (p (at .at)) (at .fails);
+      }
 
   pub masked : (m w : ℕ) → exact p m ≡ true → w < 2 ^ 64 → eqb (bitAnd w m) w ≡ setOnly 64 p w
   masked m w e fit =

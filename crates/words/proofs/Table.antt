@@ -1,7 +1,7 @@
 -- A rule at each place, from one test over all of them.
 -- Assumes nothing.
 use mathlib.Core.Path.{_≡_, refl, ap, subst}
-use mathlib.Core.Bool.{Bool, true, _&&_}
+use mathlib.Core.Bool.{Bool, true, false, _&&_}
 use mathlib.Core.List.{List, [], _∷_}
 use mathlib.Core.Logic.{⊎-elim}
 use Prim.Native.Nat.{ℕ, zero, suc, _+_, _≤_, _<_}
@@ -10,7 +10,7 @@ use native.Mathlib.Omega.{arith}
 use lib.Dec.{T}
 use lib.ListN.{length, getD}
 use Rattle.words.specs.Ranges.{all}
-use Rattle.words.proofs.Truth.{left, right, and-true, passed}
+use Rattle.words.proofs.Truth.{left, right, and-true, clash, passed}
 
 -- numbers: a test that passes at each below n, and the other way round
 pub all-at : (n : ℕ) (p : ℕ → Bool) → all n p ≡ true → (i : ℕ) → i < n → p i ≡ true
@@ -21,6 +21,20 @@ all-at (suc n) p e i h =
 pub at-all : (n : ℕ) (p : ℕ → Bool) → ((i : ℕ) → i < n → p i ≡ true) → all n p ≡ true
 at-all zero p f = refl
 at-all (suc n) p f = and-true (f n (omega arith)) (at-all n p (λ i h. f i (omega arith)))
+
+-- a number below n at which a test fails, where it does not pass at each
+pub record Failing (n : ℕ) (p : ℕ → Bool) : Type 0 where
+  pub at : ℕ
+  pub below : at < n
+  pub fails : p at ≡ false
+
+pub fails-somewhere : (n : ℕ) (p : ℕ → Bool) → all n p ≡ false → Failing n p
+fails-somewhere zero p e = clash refl e
+fails-somewhere (suc n) p e = by-test (p n) refl (fails-somewhere n p)
+  where
+    by-test : (b : Bool) → p n ≡ b → (all n p ≡ false → Failing n p) → Failing (suc n) p
+    by-test false q lower = record { at = n; below = omega arith; fails = q }
+    by-test true q lower = let r = lower (rw q at e) in record { at = r .at; below = omega (arith, r .below); fails = r .fails }
 
 -- a table: each entry passes the rule of its place, the first standing at place i
 abbrev pub obeys : {A : Type 0} → (ℕ → A → Bool) → ℕ → List A → Bool

@@ -32,7 +32,7 @@ returns-2 c =
     made-consumed (c .before .before .before .before .before .before .before .before .before .before .pre) (c .before .before .before .before .before .before .before .d .given .1) (c .before .before .before .before .find-from .ensures) (c .before .before .enum-told .given .1) (c .consumed .ensures)
 
 returns-3 : tie.Need-returns-3
-returns-3 c = made-raised (c .before .before .before .before .before .pre) (c .before .before .enum-told2 .given .1) (c .raised .ensures)
+returns-3 c = search made-raised
 
 pub step-spec : {M : Type 1} → statement M
 step-spec =
@@ -51,6 +51,7 @@ step-spec =
     (λ c. search needs)
     (λ c. search needs)
     (λ c. search needs)
+    (λ c κs. search needs)
     (λ c κs. search needs)
     (λ c. search needs)
     (λ c. search needs)
