@@ -25,6 +25,7 @@ use Rattle.image.proofs.AfterStores.{cleared-control}
 use Rattle.due.specs.Due.{What, Remove, Consume, Raise, afterCommand}
 use Rattle.due.proofs.Consuming.{after-pending}
 use Rattle.runs.specs.Running.{Next, rests, stores, last, next, runBy, dueIn, run}
+use Rattle.promises.specs.Pending.{setBy}
 use Rattle.promises.proofs.Cases.{Case, removes, consumes, raises, is-due}
 use Rattle.promises.proofs.Accepted.{store-accepted}
 
@@ -33,10 +34,6 @@ abbrev syncsBy : What → ℕ
 syncsBy Remove = 0
 syncsBy (Consume y) = y
 syncsBy (Raise told) = 0
-
--- set by so many, or as it was
-abbrev pub setBy : ℕ → ℕ → ℕ
-setBy y before = pick (eqb y 0) before 1
 
 joined : (y s a : ℕ) → setBy s (setBy y a) ≡ setBy (y + s) a
 joined y s a = by-tests (eqb s 0) (eqb y 0) refl refl
