@@ -17,6 +17,7 @@ STORES = {
     ('fills', 'step'): 1,
     ('control_calls', 'doorbell'): 1,
     ('control_calls', 'acknowledge'): 1,
+    ('control_calls', 'clear_pending'): 1,
     ('control_calls', 'enable'): 1,
     # to other memory: the words of an answer, lent fields, an array of its caller's
     ('host', 'tell'): 1,

@@ -5,7 +5,8 @@
 
 #include "tahvenno.h"
 
-const char *const CALL_NAMES[CALLS] = {"run", "fill", "doorbell", "acknowledge", "enable", "translate", "state"};
+const char *const CALL_NAMES[CALLS] = {"run",    "fill",          "doorbell",  "acknowledge",
+                                       "enable", "clear_pending", "translate", "state"};
 
 void make_call(const struct call *call, const struct input *input, uint64_t *kept, const uint8_t *queue, struct outcome *outcome) {
     const struct access *access = &call->access;
@@ -19,6 +20,7 @@ void make_call(const struct call *call, const struct input *input, uint64_t *kep
     case DOORBELL: returned = tahvenno_doorbell(kept, words, call->argument, answer); break;
     case ACKNOWLEDGE: returned = tahvenno_acknowledge(kept, words, answer); break;
     case ENABLE: returned = tahvenno_enable(kept, words, call->argument, answer); break;
+    case CLEAR_PENDING: returned = tahvenno_clear_pending(kept, words, answer); break;
     case TRANSLATE:
         returned = tahvenno_translate(kept, words, access->stream, access->substream, access->address, access->how,
                                       access->memattr, access->sh, access->hints, answer);

@@ -1,10 +1,10 @@
-/* The seven calls of the unit as values, so that a test can make the same call twice. */
+/* The eight calls of the unit as values, so that a test can make the same call twice. */
 #ifndef CALL_H
 #define CALL_H
 
 #include "inputs.h"
 
-enum which { RUN, FILL, DOORBELL, ACKNOWLEDGE, ENABLE, TRANSLATE, STATE, CALLS };
+enum which { RUN, FILL, DOORBELL, ACKNOWLEDGE, ENABLE, CLEAR_PENDING, TRANSLATE, STATE, CALLS };
 
 struct call {
     enum which which;

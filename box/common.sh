@@ -49,7 +49,7 @@ run_on() { # machine, program and its arguments
 
 # The exported calls, in the header's order.
 calls() {
-    grep -o '\<tahvenno_[a-z]*(' include/tahvenno.h | tr -d '('
+    grep -o '\<tahvenno_[a-z_]*(' include/tahvenno.h | tr -d '('
 }
 
 # What an archive wants of other libraries; nothing, if all is well.

@@ -141,7 +141,9 @@ static uint64_t any_control(struct dice *dice, uint64_t log2size) {
     if (below(dice, 2)) flags |= GERROR | GERRORN;
     if (active) flags ^= GERROR;
     if (active || below(dice, 3) == 0) flags |= UINT64_C(1) << ERR_SHIFT;
-    if (below(dice, 10)) flags |= CMDQEN;
+    uint64_t both = roll(dice); /* one roll, so that those after it stay as they were without the pending bit */
+    if (both % 10) flags |= CMDQEN;
+    if (both >> 63) flags |= PENDING;
     return control_word(rd, (rd + wait) % ring, flags, log2size);
 }
 

@@ -1,6 +1,6 @@
 /* Inputs for the tests of the compiled unit: images, queues and calls from repeatable random numbers, made from the layout that
- * document 01 gives and the limits of document 02, T-06. Nothing here comes from the unit. Identifiers come from small pools, so
- * that rows and commands meet. */
+ * document 01 gives, with the limits of document 02, T-06, and the pending bit of T-08. Nothing here comes from the unit.
+ * Identifiers come from small pools, so that rows and commands meet. */
 #ifndef INPUTS_H
 #define INPUTS_H
 
@@ -29,6 +29,8 @@ extern const struct size LARGEST, SMALL;
 #define GERRORN (UINT64_C(1) << 48)
 #define CMDQEN (UINT64_C(1) << 49)
 #define SIZE_SHIFT 50
+#define SIZE_BITS UINT64_C(0x1F)
+#define PENDING (UINT64_C(1) << 55)
 
 struct dice {
     uint64_t state;

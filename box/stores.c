@@ -25,6 +25,7 @@ static uint64_t seed = 1;
 
 static struct {
     uint64_t calls, stores, runs, cut, removed, consumed, raised, several, off, held, empty;
+    uint64_t made_pending, left_pending, raised_pending;
     uint64_t fills, cut_fills, same_words, same_controls, refused[CALLS], done[CALLS];
 } seen;
 
@@ -127,17 +128,26 @@ static size_t stores_one_by_one(const struct input *input, struct store *expecte
     return count;
 }
 
-/* Document 01's order, with no look at what a command is about: rows from the lowest up are cleared, then RD goes forward by one;
- * or the error is raised, and that is the last. */
+/* Whether the command at RD asks for an interrupt: CMD_SYNC with CS 1. */
+static int signals(const struct input *input, uint64_t control) {
+    uint64_t slots = UINT64_C(1) << (control >> SIZE_SHIFT & SIZE_BITS);
+    const uint8_t *slot = input->queue + 16 * ((control & RD_BITS) % slots);
+    return slot[0] == 0x46 && (slot[1] >> 4 & 3) == 1;
+}
+
+/* Document 01's order, with no look at what rows a command is about: rows from the lowest up are cleared, then RD goes forward by
+ * one; or the error is raised, and that is the last. The store that moves RD also sets the pending bit if the command asks for an
+ * interrupt, and no store of a run clears it (document 02, T-08). */
 static void check_order(const struct input *input, const struct store *stores, size_t count, uint64_t end) {
-    uint64_t kept[ROOM], control, ring, moved, raised;
+    uint64_t kept[ROOM], control, ring, moved, raised, pending;
     size_t lowest = 1, rows = 0;
     memcpy(kept, input->kept, sizeof kept);
     for (size_t i = 0; i < count; i++) {
         const struct store *store = &stores[i];
         control = kept[0];
-        ring = UINT64_C(2) << (control >> SIZE_SHIFT);
-        moved = (control & ~RD_BITS) | ((control & RD_BITS) + 1) % ring;
+        ring = UINT64_C(2) << (control >> SIZE_SHIFT & SIZE_BITS);
+        pending = signals(input, control) ? PENDING : 0;
+        moved = (control & ~RD_BITS) | ((control & RD_BITS) + 1) % ring | pending;
         raised = (control ^ GERROR) | UINT64_C(1) << ERR_SHIFT;
         if (store->word) {
             if (store->word % 4 != 1 || store->value || !kept[store->word] || store->word < lowest)
@@ -148,9 +158,13 @@ static void check_order(const struct input *input, const struct store *stores, s
             seen.several += rows > 1;
             seen.removed += rows;
             seen.consumed++;
+            seen.made_pending += moved & ~control & PENDING ? 1 : 0;
+            seen.left_pending += control & PENDING && !pending;
             rows = 0, lowest = 1;
         } else if (store->value != raised || rows || i + 1 != count || end != TAHVENNO_RAISED) {
             fail("run: store %zu puts %" PRIx64 " over control word %" PRIx64, i + 1, store->value, control);
+        } else {
+            seen.raised_pending += control & PENDING ? 1 : 0;
         }
         kept[store->word] = store->value;
     }
@@ -258,6 +272,7 @@ static void check_fills(struct dice *dice, int rounds) {
 static uint64_t control_after(const struct call *call, uint64_t control) {
     if (call->which == DOORBELL) return (control & ~(RD_BITS << WR_SHIFT)) | call->argument << WR_SHIFT;
     if (call->which == ACKNOWLEDGE) return (control & ~GERRORN) | (control & GERROR) << 1;
+    if (call->which == CLEAR_PENDING) return control & ~PENDING;
     return call->argument ? control | CMDQEN : control & ~CMDQEN;
 }
 
@@ -276,7 +291,7 @@ static void check_others(struct dice *dice, int rounds) {
         make_call(&call, &input, plain, input.queue, &outcome);
         if (!outcome.returned && which <= FILL) continue;
         struct store store = {0, control_after(&call, input.kept[0])};
-        int stores = !outcome.returned && which <= ENABLE;
+        int stores = !outcome.returned && which <= CLEAR_PENDING;
         check_call(&input, &call, &store, (size_t)stores);
         seen.refused[which] += outcome.returned != 0;
         seen.done[which] += outcome.returned == 0;
@@ -289,6 +304,9 @@ static void report(void) {
     printf("stores: %" PRIu64 " runs (%" PRIu64 " off, %" PRIu64 " held, %" PRIu64 " empty, %" PRIu64 " raised) at %" PRIu64
            " allowances that cut: %" PRIu64 " rows removed, %" PRIu64 " commands consumed, %" PRIu64 " of them with several rows\n",
            seen.runs, seen.off, seen.held, seen.empty, seen.raised, seen.cut, seen.removed, seen.consumed, seen.several);
+    printf("stores: the pending bit is set by %" PRIu64 " stores that move RD, and left as it is by %" PRIu64 " and by %" PRIu64
+           " that raise\n",
+           seen.made_pending, seen.left_pending, seen.raised_pending);
     printf("stores: %" PRIu64 " fills, %" PRIu64 " of them cut, with %" PRIu64 " words that were there already\n", seen.fills,
            seen.cut_fills, seen.same_words);
     for (enum which which = RUN; which < CALLS; which++) {

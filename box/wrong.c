@@ -98,13 +98,27 @@ static void reorder(struct due *due, size_t count) {
     }
 }
 
+/* The control word of a run, with the pending bit in it by other stores, or by other commands. */
+static void store_pending(uint64_t *kept, uint64_t value) {
+    uint64_t new = value & ~kept[0] & PENDING;
+    int moves = (value ^ kept[0]) & RD_BITS ? 1 : 0;
+    if (fault("run-pending-apart") && new) store(kept, 0, value ^ PENDING);
+    if (fault("run-pending-first") && new) store(kept, 0, kept[0] | PENDING);
+    if (fault("run-pending-lost")) value ^= new;
+    if (fault("run-pending-always") && moves) value |= PENDING;
+    if (fault("run-pending-raised") && !moves) value &= ~PENDING;
+    store(kept, 0, value);
+}
+
 static void store_run(uint64_t *kept, const struct due *due, size_t count) {
     size_t last = count;
     while (last > 0 && due[last - 1].word) last--;
     for (size_t i = 0; i < count; i++) {
+        int narrow = !due[i].word && due[i].value >> 32 == kept[0] >> 32; /* the lower half is all that changes */
         if (fault("run-rd-gathered") && i + 1 < last && !due[i].word) continue;
         if (fault("run-in-halves")) in_halves(kept, due[i].word, due[i].value);
-        else if (fault("run-rd-narrow") && !due[i].word) *(volatile uint32_t *)(void *)kept = (uint32_t)due[i].value;
+        else if (fault("run-rd-narrow") && narrow) *(volatile uint32_t *)(void *)kept = (uint32_t)due[i].value;
+        else if (!due[i].word) store_pending(kept, due[i].value);
         else store(kept, due[i].word, due[i].value);
         if (fault("run-doubled")) store(kept, due[i].word, due[i].value);
     }
@@ -183,11 +197,19 @@ static void store_control(uint64_t *kept, uint64_t value) {
 #endif
     }
     if (fault("control-twice")) store(kept, 0, value ^ CMDQEN);
+    if (fault("control-pending")) value &= ~PENDING;
     store(kept, 0, value);
 }
 
+/* The pending bit is the top one of a byte, which a compiler might clear alone. */
+static void store_cleared(uint64_t *kept, uint64_t value) {
+    if (fault("clear-byte")) ((volatile uint8_t *)kept)[6] = (uint8_t)(value >> 48);
+    else store_control(kept, value);
+    if (fault("clear-doubled")) store(kept, 0, value);
+}
+
 /* A control call on a copy of the control word and rows, then the control word stored. */
-#define CONTROL(name, parameters, arguments)                                                                                     \
+#define CONTROL(name, parameters, arguments, put)                                                                                \
     uint64_t __real_tahvenno_##name parameters;                                                                                  \
     uint64_t __wrap_tahvenno_##name parameters {                                                                                 \
         static uint64_t copy[ROOM];                                                                                              \
@@ -195,13 +217,15 @@ static void store_control(uint64_t *kept, uint64_t value) {
         memcpy(copy, lent, 8 * words);                                                                                           \
         kept = copy;                                                                                                             \
         uint64_t returned = __real_tahvenno_##name arguments;                                                                    \
-        if (!returned) store_control(lent, copy[0]);                                                                             \
+        if (!returned) put(lent, copy[0]);                                                                                       \
+        if (returned == 12 && fault("clear-refused")) store(lent, 0, copy[0]);                                                   \
         return returned;                                                                                                         \
     }
 
-CONTROL(doorbell, (uint64_t *kept, size_t words, uint64_t wr, uint64_t answer[8]), (kept, words, wr, answer))
-CONTROL(acknowledge, (uint64_t *kept, size_t words, uint64_t answer[8]), (kept, words, answer))
-CONTROL(enable, (uint64_t *kept, size_t words, uint64_t on, uint64_t answer[8]), (kept, words, on, answer))
+CONTROL(doorbell, (uint64_t *kept, size_t words, uint64_t wr, uint64_t answer[8]), (kept, words, wr, answer), store_control)
+CONTROL(acknowledge, (uint64_t *kept, size_t words, uint64_t answer[8]), (kept, words, answer), store_control)
+CONTROL(enable, (uint64_t *kept, size_t words, uint64_t on, uint64_t answer[8]), (kept, words, on, answer), store_control)
+CONTROL(clear_pending, (uint64_t *kept, size_t words, uint64_t answer[8]), (kept, words, answer), store_cleared)
 
 uint64_t __real_tahvenno_state(const uint64_t *, size_t, uint64_t *);
 uint64_t __wrap_tahvenno_state(const uint64_t *kept, size_t words, uint64_t answer[8]) {

@@ -21,6 +21,7 @@ pub enum Call<'a> {
     },
     Translate(Asked),
     State,
+    ClearPending,
 }
 
 /// A transaction as the C interface takes it.
@@ -36,7 +37,7 @@ pub struct Asked {
 }
 
 /// The names of the calls, in the order of `Call::index`.
-pub const NAMES: [&str; 7] = [
+pub const NAMES: [&str; 8] = [
     "run",
     "fill",
     "doorbell",
@@ -44,11 +45,12 @@ pub const NAMES: [&str; 7] = [
     "enable",
     "translate",
     "state",
+    "clear_pending",
 ];
 
 /// The numbers that each call is passed and their bits, in the order of the C
 /// interface; memory and queue aren't among them.
-pub const NUMBERS: [&[(&str, u32)]; 7] = [
+pub const NUMBERS: [&[(&str, u32)]; NAMES.len()] = [
     &[("features", 64), ("allowance", 64)],
     &[
         ("row", 64),
@@ -70,6 +72,7 @@ pub const NUMBERS: [&[(&str, u32)]; 7] = [
         ("sh", 64),
         ("hints", 64),
     ],
+    &[],
     &[],
 ];
 
@@ -94,6 +97,7 @@ impl Call<'_> {
             Call::Enable { .. } => 4,
             Call::Translate(_) => 5,
             Call::State => 6,
+            Call::ClearPending => 7,
         }
     }
 
@@ -121,7 +125,7 @@ impl Call<'_> {
                 asked.sh,
                 asked.hints,
             ],
-            Call::Acknowledge | Call::State => vec![],
+            Call::Acknowledge | Call::State | Call::ClearPending => vec![],
         }
     }
 

@@ -24,6 +24,7 @@ extern "C" {
     pub fn tahvenno_doorbell(kept: *mut u64, words: usize, wr: u64, answer: *mut u64) -> u64;
     pub fn tahvenno_acknowledge(kept: *mut u64, words: usize, answer: *mut u64) -> u64;
     pub fn tahvenno_enable(kept: *mut u64, words: usize, on: u64, answer: *mut u64) -> u64;
+    pub fn tahvenno_clear_pending(kept: *mut u64, words: usize, answer: *mut u64) -> u64;
     pub fn tahvenno_translate(
         kept: *const u64,
         words: usize,

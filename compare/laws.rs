@@ -11,7 +11,9 @@ pub fn broken(before: &[u64], call: Call, reply: Reply, after: &[u64]) -> Option
         return (before != after).then_some("a refusal stored something");
     }
     match call {
-        Call::Run { allowance, .. } => run(before, allowance, reply, after),
+        Call::Run {
+            queue, allowance, ..
+        } => run(before, queue, allowance, reply, after),
         Call::Translate(_) | Call::State => {
             (before != after).then_some("a call that only reads stored something")
         }
@@ -20,13 +22,24 @@ pub fn broken(before: &[u64], call: Call, reply: Reply, after: &[u64]) -> Option
             let others = |words: &[u64]| [&words[..start], &words[start + 4..]].concat();
             (others(before) != others(after)).then_some("a fill changed another row")
         }
-        _ => (before[1..] != after[1..]).then_some("a control call changed a row"),
+        _ if before[1..] != after[1..] => Some("a control call changed a row"),
+        Call::ClearPending => {
+            let one = pending(before) && before[0] ^ after[0] == PENDING;
+            (!one).then_some("clearing changed another bit, or one that wasn't set")
+        }
+        _ => (pending(before) != pending(after)).then_some("a control call changed bit 55"),
     }
 }
 
-/// The sums of document 01, One run.
-fn run(before: &[u64], allowance: u64, reply: Reply, after: &[u64]) -> Option<&'static str> {
-    let [end, consumed, stores, removed, ..] = reply.answer;
+/// The sums of document 01, One run, and what document 02 adds.
+fn run(
+    before: &[u64],
+    queue: &[u8],
+    allowance: u64,
+    reply: Reply,
+    after: &[u64],
+) -> Option<&'static str> {
+    let [end, consumed, stores, removed, syncs, ..] = reply.answer;
     if stores != removed + consumed + u64::from(end == RAISED) {
         return Some("stores aren't rows removed and commands consumed, and one if Raised");
     }
@@ -36,8 +49,31 @@ fn run(before: &[u64], allowance: u64, reply: Reply, after: &[u64]) -> Option<&'
     if stores > allowance || (end == CUT && stores != allowance) {
         return Some("more stores than allowed, or Cut with some left");
     }
+    if syncs != signals(before, queue, consumed) {
+        return Some("CMD_SYNCs counted aren't those consumed with CS 1");
+    }
+    if pending(after) != (pending(before) || syncs > 0) {
+        return Some("bit 55 after isn't bit 55 before or a CMD_SYNC with CS 1");
+    }
     let law = "reason and slot aren't those of the command that raised, if one did";
     (!carried(reply, after)).then_some(law)
+}
+
+/// The pending bit of document 02, T-08.
+const PENDING: u64 = 1 << 55;
+
+fn pending(kept: &[u64]) -> bool {
+    kept[0] & PENDING != 0
+}
+
+/// How many of the commands that a run consumed are a CMD_SYNC with CS 1, by the
+/// guest's bytes alone.
+fn signals(before: &[u64], queue: &[u8], consumed: u64) -> u64 {
+    let control = Control::fields(before[0]);
+    let slots = (control.rd..control.rd + consumed).map(|index| index % control.slots());
+    let bytes = slots.map(|slot| &queue[16 * slot as usize..]);
+    let signal = |bytes: &&[u8]| bytes[0] == 0x46 && bytes[1] >> 4 & 3 == 1;
+    bytes.filter(signal).count() as u64
 }
 
 /// Document 02, T-09: reason and slot come with Raised, and with nothing else.

@@ -78,8 +78,10 @@ fn compare(seed: u64, wrong: Option<Wrong>) -> ExitCode {
     let mut checker = Checker::new(seed, wrong);
     phases::cases::cases(&mut checker);
     phases::reasons::cases::cases(&mut checker);
+    phases::pending::cases::cases(&mut checker);
     phases::limits::limits(&mut checker);
     phases::reasons::reasons(&mut checker);
+    phases::pending::pending(&mut checker);
     phases::commands::sweeps(&mut checker);
     phases::formats::sweeps(&mut checker);
     phases::controls::sweeps(&mut checker);

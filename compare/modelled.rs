@@ -4,7 +4,7 @@ use crate::answers::{answer, filled, ran, reply, standing, transaction, translat
 use crate::call::{Asked, Call, Reply};
 use crate::model::command::Features;
 use crate::model::control::Control;
-use crate::model::control_calls::{acknowledge, doorbell, enable};
+use crate::model::control_calls::{acknowledge, clear_pending, doorbell, enable};
 use crate::model::fill::fill;
 use crate::model::refusal::Refusal;
 use crate::model::run::{run, Report};
@@ -14,6 +14,7 @@ use crate::tally::Tally;
 
 /// Makes the call, and tells the tally what came of it.
 pub fn perform(call: Call, kept: &mut [u64], tally: &mut Tally) -> Reply {
+    let before = kept.first().copied().unwrap_or(0);
     let result = match call {
         Call::Run {
             queue,
@@ -30,9 +31,13 @@ pub fn perform(call: Call, kept: &mut [u64], tally: &mut Tally) -> Reply {
         Call::Enable { on } => enable(kept, on != 0).map(|()| answer(&[])),
         Call::Translate(asked) => outcome(kept, asked, tally).map(translated),
         Call::State => state(kept).map(standing),
+        Call::ClearPending => clear_pending(kept).map(|()| answer(&[])),
     };
     let reply = reply(result);
     tally.count(&call, &reply);
+    if reply.number == 0 {
+        tally.pending.count(&call, &reply, (before, kept[0]));
+    }
     reply
 }
 

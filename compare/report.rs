@@ -61,7 +61,7 @@ fn print_call(call: &Call) {
         Call::Doorbell { wr } => println!(" wr {wr:#x}"),
         Call::Enable { on } => println!(" on {on:#x}"),
         Call::Translate(asked) => println!(" {asked:#x?}"),
-        Call::Acknowledge | Call::State => println!(),
+        Call::Acknowledge | Call::State | Call::ClearPending => println!(),
     }
 }
 

@@ -1,9 +1,11 @@
 //! What was compared: a kind that never occurred has to be seen.
 
 mod commands;
+mod pending;
 
 use crate::call::{Call, Reply, NAMES};
 use commands::Commands;
+use pending::Pending;
 
 const RUN_ENDS: [&str; 5] = ["Off", "Held", "Empty", "Raised", "Cut"];
 const FILL_ENDS: [&str; 2] = ["Filled", "Cut"];
@@ -16,16 +18,20 @@ const OUTCOMES: [&str; 6] = [
     "Miss stage 2",
 ];
 const CONFIGS: [usize; 5] = [0, 4, 5, 6, 7];
+/// The refusals that there are. 11 is none today.
+const REFUSALS: [usize; 11] = [1, 2, 3, 4, 5, 6, 7, 8, 9, 10, 12];
+const HIGHEST: usize = REFUSALS[REFUSALS.len() - 1];
 
 #[derive(Default)]
 pub struct Tally {
     pub compared: u64,
-    calls: [u64; 7],
-    refusals: [[u64; 11]; 7],
+    calls: [u64; NAMES.len()],
+    refusals: [[u64; HIGHEST + 1]; NAMES.len()],
     run_ends: [u64; 5],
     fill_ends: [u64; 2],
     outcomes: [u64; 6],
     pub commands: Commands,
+    pub pending: Pending,
     configs: [u64; 8],
     config_hits: [u64; 8],
 }
@@ -67,6 +73,7 @@ impl Tally {
         }
         self.print_configs(&mut table);
         self.commands.print(&mut table);
+        self.pending.print(&mut table);
         table.missing
     }
 
@@ -75,11 +82,13 @@ impl Tally {
             "Calls compared: {}\n  {:<14}{:>9}",
             self.compared, "", "calls"
         );
-        (1..=10).for_each(|number| print!("{:>9}", format!("no {number}")));
+        for number in REFUSALS {
+            print!("{:>9}", format!("no {number}"));
+        }
         println!();
         for (call, name) in NAMES.iter().enumerate() {
             print!("  {name:<14}{}", table.cell(self.calls[call], true));
-            for number in 1..=10 {
+            for number in REFUSALS {
                 print!(
                     "{}",
                     table.cell(self.refusals[call][number], refusable(call, number))
@@ -107,7 +116,8 @@ fn refusable(call: usize, number: usize) -> bool {
         5 => NAMES[call] == "doorbell",
         6 => NAMES[call] == "acknowledge",
         7..=9 => NAMES[call] == "fill",
-        _ => NAMES[call] == "translate",
+        10 => NAMES[call] == "translate",
+        _ => NAMES[call] == "clear_pending",
     }
 }
 

@@ -31,6 +31,7 @@ pub fn perform(call: Call, kept: &mut Lent, answer: &mut Lent) -> u64 {
             Call::Enable { on } => tahvenno_enable(memory, words, on, answer),
             Call::Translate(asked) => translate(memory, words, asked, answer),
             Call::State => tahvenno_state(memory, words, answer),
+            Call::ClearPending => tahvenno_clear_pending(memory, words, answer),
         }
     }
 }

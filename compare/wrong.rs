@@ -1,6 +1,7 @@
 //! Wrong units: the unit with one fault put around it. The comparison has to
 //! catch each of them, and the gate sees to it.
 
+mod pending;
 mod reasons;
 
 use crate::call::{Call, NAMES, NUMBERS};
@@ -33,6 +34,8 @@ enum Fault {
     Wrapped,
     /// A run tells another reason or slot.
     Mistold(reasons::Fault),
+    /// The pending bit is set, kept or cleared otherwise.
+    Pending(pending::Fault),
 }
 
 pub struct Wrong {
@@ -43,6 +46,15 @@ pub struct Wrong {
 const RUN: usize = 0;
 const TRANSLATE: usize = 5;
 const STATE: usize = 6;
+
+/// A call that the unit has answered: the memory before, the number, and what is
+/// lent, as the unit left it.
+struct Around<'a> {
+    before: &'a [u64],
+    number: u64,
+    kept: &'a mut Lent,
+    answer: &'a mut Lent,
+}
 
 /// Every wrong unit.
 pub fn all() -> Vec<Wrong> {
@@ -71,6 +83,9 @@ pub fn all() -> Vec<Wrong> {
     add("a queue's length of 16 bits".into(), Fault::Wrapped);
     for (name, fault) in reasons::ALL {
         add(name.into(), Fault::Mistold(fault));
+    }
+    for (name, fault) in pending::all() {
+        add(name, Fault::Pending(fault));
     }
     all
 }
@@ -178,6 +193,15 @@ impl Wrong {
         let last = words(ROWS - 1);
         let row = answer.inner()[0];
         match self.fault {
+            Fault::Pending(fault) => {
+                let around = Around {
+                    before,
+                    number,
+                    kept,
+                    answer,
+                };
+                return fault.spoil(call, around);
+            }
             Fault::Mistold(fault) if number == 0 => {
                 let controls = (before[0], kept.inner()[0]);
                 fault.mistell(call, controls, answer.inner_mut());

@@ -1,23 +1,26 @@
-/* A monitor's calls from C: two rows are filled, a command removes one of them, and a transaction asks before and after. */
+/* A monitor's calls from C: two rows are filled, a command removes one of them, and a transaction asks before and after. A CMD_SYNC
+ * behind that command asks for an interrupt. */
 #include <inttypes.h>
 #include <stdio.h>
 #include "tahvenno.h"
 
 #define CMD_TLBI_NSNH_ALL 0x30 /* the guest's command: remove every stage 1 and stage 2 row */
+#define CMD_SYNC 0x46
+#define CS_1 0x10 /* in its second byte: interrupt the guest when it is done */
 #define FEATURES (TAHVENNO_S1P | TAHVENNO_S2P)
 #define WRITE_BACK TAHVENNO_NORMAL(TAHVENNO_WB, TAHVENNO_WB)
 #define FROM UINT64_C(0x1000)
 #define TO UINT64_C(0x8000)
 
-enum { WORDS = TAHVENNO_WORDS(2), LOG2SIZE = 0, PAGE = 12, STREAM = 5, SUBSTREAM = 0 };
+enum { WORDS = TAHVENNO_WORDS(2), LOG2SIZE = 1, PAGE = 12, STREAM = 5, SUBSTREAM = 0 };
 
 static uint64_t ask(const uint64_t *kept, uint64_t *answer) { /* a write by the device of the stream, somewhere in the page */
     return tahvenno_translate(kept, WORDS, STREAM, SUBSTREAM, FROM + 0x234, TAHVENNO_WRITE, WRITE_BACK, TAHVENNO_NSH, 0, answer);
 }
 
 int main(void) {
-    uint64_t kept[WORDS] = {TAHVENNO_PUT(TAHVENNO_LOG2SIZE, LOG2SIZE) | TAHVENNO_CMDQEN}; /* enabled, one slot; two empty rows */
-    uint8_t queue[TAHVENNO_QUEUE_BYTES(LOG2SIZE)] = {CMD_TLBI_NSNH_ALL};
+    uint64_t kept[WORDS] = {TAHVENNO_PUT(TAHVENNO_LOG2SIZE, LOG2SIZE) | TAHVENNO_CMDQEN}; /* enabled, two slots; two empty rows */
+    uint8_t queue[TAHVENNO_QUEUE_BYTES(LOG2SIZE)] = {[0] = CMD_TLBI_NSNH_ALL, [TAHVENNO_SLOT_BYTES] = CMD_SYNC, CS_1};
     uint64_t answer[TAHVENNO_ANSWER_WORDS], refused = 0;
     uint64_t ste = TAHVENNO_ROW(TAHVENNO_STE) | TAHVENNO_LAST_LEVEL;
     uint64_t ste_1 = TAHVENNO_PUT(TAHVENNO_STREAM, STREAM) | TAHVENNO_PUT(TAHVENNO_CONFIG, TAHVENNO_CONFIG_STAGE2);
@@ -27,10 +30,14 @@ int main(void) {
     refused |= tahvenno_fill(kept, WORDS, 1, page, 0, FROM, TO, TAHVENNO_ROW_WORDS, answer);
     refused |= ask(kept, answer);
     printf("before: outcome %" PRIu64 ", address %" PRIx64 "\n", answer[0], answer[1]);
-    refused |= tahvenno_doorbell(kept, WORDS, 1, answer);
+    refused |= tahvenno_doorbell(kept, WORDS, 2, answer);
     do { /* one store a call, as if power went after each */
         refused |= tahvenno_run(kept, WORDS, queue, sizeof queue, FEATURES, 1, answer);
     } while (refused == 0 && answer[0] == TAHVENNO_CUT);
+    if (kept[0] & TAHVENNO_PENDING) { /* no matter which of these calls consumed the CMD_SYNC; raised first, then cleared */
+        printf("interrupt\n");
+        refused |= tahvenno_clear_pending(kept, WORDS, answer);
+    }
     refused |= ask(kept, answer);
     printf("after: outcome %" PRIu64 "\n", answer[0]);
     return refused != 0;

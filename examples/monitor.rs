@@ -3,6 +3,7 @@ extern "C" {
     fn tahvenno_fill(kept: *mut u64, words: usize, row: u64, w0: u64, w1: u64, w2: u64, w3: u64, allowance: u64, answer: *mut u64) -> u64;
     fn tahvenno_doorbell(kept: *mut u64, words: usize, wr: u64, answer: *mut u64) -> u64;
     fn tahvenno_run(kept: *mut u64, words: usize, queue: *const u8, bytes: usize, features: u64, allowance: u64, answer: *mut u64) -> u64;
+    fn tahvenno_clear_pending(kept: *mut u64, words: usize, answer: *mut u64) -> u64;
     fn tahvenno_translate(kept: *const u64, words: usize, stream: u32, substream: u32, address: u64, how: u64, memattr: u64, sh: u64, hints: u64, answer: *mut u64) -> u64;
 }
 
@@ -17,6 +18,7 @@ const WRITE: u64 = 1 << 0;
 // The lowest bits of the parts of the control word and of a row's words 0 and 1.
 const CMDQEN: u32 = 49;
 const LOG2SIZE: u32 = 50;
+const PENDING: u32 = 55;
 const VALID: u32 = 0;
 const KIND: u32 = 1;
 const LAST_LEVEL: u32 = 3;
@@ -35,6 +37,8 @@ const NSH: u64 = 0;
 const ISH: u64 = 3;
 
 const CMD_TLBI_NSNH_ALL: u8 = 0x30; // the guest's command: remove every stage 1 and stage 2 row
+const CMD_SYNC: u8 = 0x46;
+const CS_1: u8 = 0x10; // in its second byte: interrupt the guest when it is done
 const WORDS: usize = 1 + 2 * ROW_WORDS;
 const FILL_STORES: u64 = ROW_WORDS as u64;
 const STREAM_ID: u32 = 5;
@@ -49,9 +53,10 @@ unsafe fn ask(kept: *const u64, answer: *mut u64) -> u64 {
 }
 
 fn main() {
-    let (mut kept, mut queue, mut answer) = ([0u64; WORDS], [0u8; SLOT_BYTES], [0u64; ANSWER_WORDS]);
-    kept[0] = 1 << CMDQEN | 0 << LOG2SIZE; // enabled, one slot; two empty rows
+    let (mut kept, mut queue, mut answer) = ([0u64; WORDS], [0u8; 2 * SLOT_BYTES], [0u64; ANSWER_WORDS]);
+    kept[0] = 1 << CMDQEN | 1 << LOG2SIZE; // enabled, two slots; two empty rows
     queue[0] = CMD_TLBI_NSNH_ALL;
+    queue[SLOT_BYTES..][..2].copy_from_slice(&[CMD_SYNC, CS_1]);
     let ste = 1 << VALID | STE << KIND | 1 << LAST_LEVEL;
     let ste_1 = u64::from(STREAM_ID) << STREAM | CONFIG_STAGE2 << CONFIG;
     let page = 1 << VALID | STAGE2 << KIND | 1 << LAST_LEVEL | PAGE << SPAN | WRITE_BACK << MEMATTR | ISH << SH;
@@ -61,9 +66,14 @@ fn main() {
         assert_eq!(tahvenno_fill(k, WORDS, 1, page, 0, FROM, TO, FILL_STORES, a), 0);
         assert_eq!(ask(k, a), 0);
         println!("before: outcome {}, address {:x}", *a, *a.add(1));
-        assert_eq!(tahvenno_doorbell(k, WORDS, 1, a), 0);
+        assert_eq!(tahvenno_doorbell(k, WORDS, 2, a), 0);
         // one store a call, as if power went after each, until a run is not cut
         while tahvenno_run(k, WORDS, queue.as_ptr(), queue.len(), S1P | S2P, 1, a) == 0 && *a == CUT {}
+        // no matter which of these calls consumed the CMD_SYNC; raised first, then cleared
+        if *k >> PENDING & 1 == 1 {
+            println!("interrupt");
+            assert_eq!(tahvenno_clear_pending(k, WORDS, a), 0);
+        }
         assert_eq!(ask(k, a), 0);
         println!("after: outcome {}", *a);
     }

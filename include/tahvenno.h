@@ -28,6 +28,7 @@
  *    8  fill: the row is in use
  *    9  fill: the four words are ill formed or empty
  *   10  translate: MemAttr, SH or hints are ill formed or too wide
+ *   12  clear_pending: no interrupt is pending
  *
  * 1, 2 and 3 are tried first, by every call, then the others in this order.
  *
@@ -38,8 +39,8 @@
  * Cut, and called so again it never gets further. The other calls store one word or none.
  *
  * A run that ended Cut goes on when it is called again. A fill does not: it starts from its first store every time, and until
- * its last store the row is empty. Repeated after it has finished, a fill is refused with 8 and an acknowledge with 6, a run that
- * raised ends Held, and a doorbell, an enable or a disable stores the same word again.
+ * its last store the row is empty. Repeated after it has finished, a fill is refused with 8, an acknowledge with 6 and a
+ * clear_pending with 12, a run that raised ends Held, and a doorbell, an enable or a disable stores the same word again.
  *
  * The stores are plain ones with no barrier between them. docs/BOX.md says what the memory, or the caller, has to do so that
  * they arrive in this order.
@@ -48,24 +49,35 @@
  * no cut: the run may consume the command for a change that the walk did not see, and the fill would then make the old mapping
  * valid again. If one came, walk again.
  *
+ * THE INTERRUPT. A guest asks by CMD_SYNC with CS 1 to be interrupted once the commands before it are done. The store that moves
+ * RD past such a command also sets PENDING in the control word, and nothing but clear_pending takes it away. So whenever PENDING
+ * is set after a run, raise the guest's interrupt, then call clear_pending, with no run between the two: a CMD_SYNC that a run
+ * consumed there would be cleared and never raised. If power goes between the two, the interrupt is raised once more after the
+ * restart: each request is answered by at least one interrupt, and none is lost. tahvenno_state does not tell PENDING; it is read
+ * in kept[0].
+ *
  * AFTER A RESTART, in this order:
  *
  *   1. Look at RD, ERR and active by tahvenno_state, and tell the guest what it was not told.
  *   2. Drop the fill that was under way, and whatever was walked before the cut.
  *   3. Call run, with the same queue and features, until it does not end Cut. The memory is then that of a run that was never
  *      cut.
- *   4. Walk the guest's tables again for what is missing, and fill.
+ *   4. If PENDING is set, raise the interrupt, then call clear_pending; no run comes between the two.
+ *   5. Walk the guest's tables again for what is missing, and fill.
  *
  * To 1: a call that power cut returned nothing, and its counts are lost. The counts of calls that return, cut by their
  * allowance, add up to those of a run that was never cut; those of the call that power cut are in no sum. So, before the first
  * run: if an error is active, signal it, since the run that raised it may not have returned, and a run after it answers Held
- * and not Raised. If RD has moved since the guest was last told, or nobody knows, signal a CMD_SYNC: one may have been consumed,
- * and no later run counts it. An acknowledge that was under way is repeated now or not at all: after a run it can take away an
- * error that nobody has seen.
+ * and not Raised. An acknowledge that was under way is repeated now or not at all: after a run it can take away an error that
+ * nobody has seen.
  *
  * To 2: do not repeat the fill instead. After the run it can make a stale row valid: the command that should have removed the
  * row was consumed while the row was still empty. Before the run it can bring back a row that a command has removed: the fill
  * had finished, and a run removed its row and was cut.
+ *
+ * To 4: the lost counts may have had CMD_SYNCs in them. PENDING stands for these, whichever call consumed them, so that nothing
+ * has to be guessed from where RD is. If it is clear, no interrupt is owed. It does not say how many there were, nor whether the
+ * interrupt was raised before the cut.
  *
  * NOT PROVED: the order in which C passes the parameters. A contract names them and would be the same in any order. What pins
  * the order is compare/, which declares the calls as they stand here and compares what they do with a second implementation.
@@ -104,8 +116,8 @@ extern "C" {
  * bit is a full one.
  *
  * Well formed: LOG2SIZE at most TAHVENNO_MAX_LOG2SIZE; both indexes below 2^(LOG2SIZE + 1); WR less RD, modulo that, at most
- * 2^LOG2SIZE; ERR 0 or 1 (CERROR_ILL); ERR 1 while the error is active, which it is if GERROR differs from GERRORN; every other
- * bit 0.
+ * 2^LOG2SIZE; ERR 0 or 1 (CERROR_ILL); ERR 1 while the error is active, which it is if GERROR differs from GERRORN; bits 63:56
+ * all 0. PENDING may be 0 or 1 whatever the others are.
  *
  * An empty kept memory: first 0 in word 0 of every row (their other words are free), then in the control word
  * TAHVENNO_PUT(TAHVENNO_LOG2SIZE, n), with TAHVENNO_CMDQEN if the queue is enabled. In this order a cut never leaves an old row
@@ -119,6 +131,7 @@ extern "C" {
 #define TAHVENNO_GERRORN TAHVENNO_BITS(48, 48)
 #define TAHVENNO_CMDQEN TAHVENNO_BITS(49, 49)
 #define TAHVENNO_LOG2SIZE TAHVENNO_BITS(54, 50)
+#define TAHVENNO_PENDING TAHVENNO_BITS(55, 55)
 
 /*
  * A row. It is empty if word 0 is 0, whatever the other words are. Else valid is 1, and every part not named here is 0:
@@ -227,8 +240,8 @@ enum {
 };
 
 /* Carries out the commands that wait. answer: the end, commands consumed, stores made, rows removed, and consumed CMD_SYNCs
- * that ask for an interrupt (CS 1); if it ends Raised also why the command is illegal, and its slot (RD without the wrap bit).
- * Neither is kept: a run that is called again ends Held and tells no reason. */
+ * that ask for an interrupt (CS 1), each of which also sets PENDING; if it ends Raised also why the command is illegal, and its
+ * slot (RD without the wrap bit). Neither is kept: a run that is called again ends Held and tells no reason. */
 uint64_t tahvenno_run(uint64_t *kept, size_t words, const uint8_t *queue, size_t bytes, uint64_t features,
                       uint64_t allowance, uint64_t answer[8]);
 
@@ -244,6 +257,9 @@ uint64_t tahvenno_acknowledge(uint64_t *kept, size_t words, uint64_t answer[8]);
 
 /* Enables the queue if `on` is not 0, else disables it. */
 uint64_t tahvenno_enable(uint64_t *kept, size_t words, uint64_t on, uint64_t answer[8]);
+
+/* The interrupt was raised: PENDING becomes 0, by one store. */
+uint64_t tahvenno_clear_pending(uint64_t *kept, size_t words, uint64_t answer[8]);
 
 /* Translates one access; kept memory is only read. A substream of 2^20 or more matches no CD row. answer: the outcome, and of
  * an address that address, MemAttr, SH, hints, instruction (0 or 1), privileged (0 or 1). */

@@ -21,7 +21,7 @@ pub fn control(random: &mut Random, log2size: u64) -> Control {
     let rd = random.pick(&[0, slots - 1, slots, ring - 1, anywhere]);
     let some = random.below(slots + 1);
     let wr = (rd + random.pick(&[0, 1, slots, some, some])) % ring;
-    let gerror = random.once_in(2);
+    let (gerror, pending) = random.coins();
     let active = random.once_in(10);
     Control {
         rd,
@@ -31,6 +31,7 @@ pub fn control(random: &mut Random, log2size: u64) -> Control {
         gerrorn: gerror != active,
         enabled: !random.once_in(10),
         log2size,
+        pending,
     }
 }
 

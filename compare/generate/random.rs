@@ -31,6 +31,13 @@ impl Random {
         self.below(times) == 0
     }
 
+    /// Two coins by one draw. The first is what `once_in(2)` gives, so that having
+    /// the second as well moves no draw that comes after.
+    pub fn coins(&mut self) -> (bool, bool) {
+        let draw = self.next();
+        (draw % 2 == 0, draw >> 63 == 1)
+    }
+
     pub fn pick<T: Copy>(&mut self, from: &[T]) -> T {
         from[self.below(from.len() as u64) as usize]
     }

@@ -1,4 +1,4 @@
-//! The control word (document 01, The kept memory).
+//! The control word (document 01, The kept memory; document 02, T-08).
 
 use super::words::{bit, part, with_part};
 use crate::limits::LOG2SIZE;
@@ -12,6 +12,8 @@ pub struct Control {
     pub gerrorn: bool,
     pub enabled: bool,
     pub log2size: u64,
+    /// A completion interrupt that is still to be raised.
+    pub pending: bool,
 }
 
 impl Control {
@@ -25,13 +27,14 @@ impl Control {
             gerrorn: bit(word, 48),
             enabled: bit(word, 49),
             log2size: part(word, 54, 50),
+            pending: bit(word, 55),
         }
     }
 
     /// The fields of a well-formed word.
     pub fn well_formed(word: u64) -> Option<Control> {
         let control = Control::fields(word);
-        (part(word, 63, 55) == 0 && control.consistent()).then_some(control)
+        (part(word, 63, 56) == 0 && control.consistent()).then_some(control)
     }
 
     fn consistent(&self) -> bool {
@@ -50,7 +53,8 @@ impl Control {
         let word = with_part(word, 47, 47, self.gerror.into());
         let word = with_part(word, 48, 48, self.gerrorn.into());
         let word = with_part(word, 49, 49, self.enabled.into());
-        with_part(word, 54, 50, self.log2size)
+        let word = with_part(word, 54, 50, self.log2size);
+        with_part(word, 55, 55, self.pending.into())
     }
 
     pub fn active(&self) -> bool {

@@ -1,5 +1,5 @@
-//! Doorbell, acknowledge, enable and disable: one control store each, never cut
-//! (document 01, One run).
+//! Doorbell, acknowledge, enable and disable (document 01, One run), and clearing
+//! the pending bit (document 02, T-08): one control store each, never cut.
 
 use super::image;
 use super::refusal::Refusal;
@@ -34,6 +34,17 @@ pub fn acknowledge(kept: &mut [u64]) -> Result<(), Refusal> {
 pub fn enable(kept: &mut [u64], on: bool) -> Result<(), Refusal> {
     let mut control = image::accept(kept)?;
     control.enabled = on;
+    kept[0] = control.pack();
+    Ok(())
+}
+
+/// The interrupt that was pending has been raised.
+pub fn clear_pending(kept: &mut [u64]) -> Result<(), Refusal> {
+    let mut control = image::accept(kept)?;
+    if !control.pending {
+        return Err(Refusal::NotPending);
+    }
+    control.pending = false;
     kept[0] = control.pack();
     Ok(())
 }

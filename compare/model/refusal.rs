@@ -1,4 +1,4 @@
-//! The ten ways of saying no (document 01, When the unit says no).
+//! The ways of saying no (document 01, When the unit says no; document 02, T-08).
 
 #[derive(Clone, Copy, Debug, PartialEq, Eq)]
 pub enum Refusal {
@@ -13,6 +13,7 @@ pub enum Refusal {
     RowInUse,
     RowWords,
     Attributes,
+    NotPending,
 }
 
 impl Refusal {
@@ -28,6 +29,7 @@ impl Refusal {
             Refusal::RowInUse => 8,
             Refusal::RowWords => 9,
             Refusal::Attributes => 10,
+            Refusal::NotPending => 12,
         }
     }
 }

@@ -1,4 +1,4 @@
-//! One run over the queue (document 01, One run; document 02, T-09).
+//! One run over the queue (document 01, One run; document 02, T-08 and T-09).
 
 use super::command::{decode, Effect, Features};
 use super::control::Control;
@@ -62,13 +62,15 @@ impl Writer<'_> {
         ])
     }
 
-    /// Carries out a legal command: the rows in scope, lowest first, then RD.
+    /// Carries out a legal command: the rows in scope, lowest first, then RD, and
+    /// in the same store the pending bit if it asks for an interrupt.
     fn consume(&mut self, mut control: Control, effect: Effect) -> Result<Fate, End> {
         let before = self.report.removed;
         if let Effect::Remove(scope) = effect {
             self.remove(scope)?;
         }
         control.rd = (control.rd + 1) % control.ring();
+        control.pending |= effect == Effect::Signal;
         self.store(0, control.pack())?;
         self.report.consumed += 1;
         self.report.syncs += u64::from(effect == Effect::Signal);

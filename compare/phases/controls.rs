@@ -35,6 +35,7 @@ fn words(checker: &mut Checker) {
                 Call::Doorbell { wr },
             ]);
             checker.call(&mut kept, call);
+            checker.call(&mut kept, Call::ClearPending);
         }
     }
 }
@@ -49,14 +50,17 @@ fn near_limits(random: &mut Random, log2size: u64) -> Control {
         index(random, ring)
     };
     let wide = random.below(128);
+    let err = random.pick(&[0, 0, 1, 1, 1, 2, 64, wide]);
+    let (gerror, pending) = random.coins();
     Control {
         rd,
         wr,
-        err: random.pick(&[0, 0, 1, 1, 1, 2, 64, wide]),
-        gerror: random.once_in(2),
+        err,
+        gerror,
         gerrorn: random.once_in(2),
         enabled: random.once_in(2),
         log2size,
+        pending,
     }
 }
 

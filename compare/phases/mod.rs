@@ -7,10 +7,12 @@ pub mod controls;
 pub mod cuts;
 pub mod formats;
 pub mod limits;
+pub mod pending;
 pub mod reasons;
 pub mod sequences;
 pub mod single;
 
+use crate::call::Call;
 use crate::model::control::Control;
 
 /// A queue of 2^log2size slots with `waiting` commands from slot 0 on, enabled
@@ -22,6 +24,22 @@ fn waiting(log2size: u64, waiting: u64) -> Control {
         enabled: true,
         log2size,
         ..none
+    }
+}
+
+/// So many commands waiting from `rd` on.
+fn from(log2size: u64, rd: u64, waits: u64) -> Control {
+    Control {
+        rd,
+        ..waiting(log2size, (rd + waits) % (2 << log2size))
+    }
+}
+
+fn run(queue: &[u8], features: u64, allowance: u64) -> Call<'_> {
+    Call::Run {
+        queue,
+        features,
+        allowance,
     }
 }
 

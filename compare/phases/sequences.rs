@@ -38,7 +38,13 @@ struct Sequence {
 
 impl Sequence {
     fn step(&mut self, checker: &mut Checker, random: &mut Random) {
-        let call = match random.below(16) {
+        let draw = random.next();
+        // The monitor's clearing hangs on the upper half of the draw alone, so that
+        // it changes none of the other calls.
+        if (draw >> 32) % 6 == 0 {
+            checker.call(&mut self.kept, Call::ClearPending);
+        }
+        let call = match draw % 16 {
             0..=4 => return self.run(checker, random),
             5..=7 => any_fill(random, &self.world, &self.kept),
             8..=9 => self.ring(random),

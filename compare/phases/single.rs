@@ -36,7 +36,8 @@ pub fn damaged(checker: &mut Checker) {
     }
 }
 
-/// A call of the given index with arguments that fit the memory, or nearly.
+/// A call of the given index with arguments that fit the memory, or nearly: one of
+/// document 01's seven. The one of T-08 has phases of its own.
 pub fn any_call(
     checker: &mut Checker,
     random: &mut Random,

@@ -28,6 +28,7 @@ fn memories(checker: &mut Checker) {
     let control = Control {
         err: 1,
         gerror: true,
+        pending: true,
         ..waiting(0, 1)
     };
     let queue = bytes(&[(0x46, 0)]);

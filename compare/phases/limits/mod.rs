@@ -113,7 +113,7 @@ fn places(rows: u64) -> Vec<u64> {
 }
 
 /// Every call once, as an accepted memory would take it.
-fn every_call(checker: &mut Checker, kept: &[u64], queue: &[u8]) {
+pub fn every_call(checker: &mut Checker, kept: &[u64], queue: &[u8]) {
     let run = Call::Run {
         queue,
         features: ALL,
@@ -133,13 +133,15 @@ fn every_call(checker: &mut Checker, kept: &[u64], queue: &[u8]) {
         Call::Enable { on: 1 },
         Call::Translate(asked()),
         Call::State,
+        Call::ClearPending,
     ];
     for call in calls {
         checker.call(&mut kept.to_vec(), call);
     }
 }
 
-/// The calls with what each of them alone refuses; none has an active error.
+/// The calls with what each of them alone refuses; the memory has neither an
+/// active error nor a pending interrupt.
 fn every_refused(checker: &mut Checker, kept: &[u64]) {
     let run = Call::Run {
         queue: &[],
@@ -162,6 +164,7 @@ fn every_refused(checker: &mut Checker, kept: &[u64]) {
         Call::Doorbell { wr: u64::MAX },
         Call::Acknowledge,
         Call::Translate(ill_formed),
+        Call::ClearPending,
     ];
     for call in calls {
         checker.call(&mut kept.to_vec(), call);

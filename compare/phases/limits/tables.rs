@@ -34,13 +34,14 @@ pub fn sweeps(checker: &mut Checker) {
     }
 }
 
-/// A row with one word wrong, by every call. The memory has an active error and
-/// a command, and row 0 is empty where it can be, so that no call would be
-/// refused for another reason.
+/// A row with one word wrong, by every call. The memory has an active error, a
+/// pending interrupt and a command, and row 0 is empty where it can be, so that no
+/// call would be refused for another reason.
 fn refused(checker: &mut Checker, rows: u64) {
     let control = Control {
         err: 1,
         gerror: true,
+        pending: true,
         ..waiting(0, 1)
     };
     let queue = bytes(&[(0x46, 0)]);

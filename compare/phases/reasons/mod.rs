@@ -5,10 +5,9 @@ pub mod cases;
 mod cuts;
 mod queues;
 
-use super::{bytes, waiting};
+use super::{bytes, from, run, waiting};
 use crate::call::{Call, RAISED};
 use crate::checker::Checker;
-use crate::model::control::Control;
 
 /// All but S2P: without it each reason has a command.
 const FEATURES: u64 = 0b1101;
@@ -25,22 +24,6 @@ pub fn reasons(checker: &mut Checker) {
     bits::sweeps(checker);
     queues::sweeps(checker);
     cuts::sweeps(checker);
-}
-
-/// So many commands waiting from `rd` on.
-fn from(log2size: u64, rd: u64, waits: u64) -> Control {
-    Control {
-        rd,
-        ..waiting(log2size, (rd + waits) % (2 << log2size))
-    }
-}
-
-fn run(queue: &[u8], features: u64, allowance: u64) -> Call<'_> {
-    Call::Run {
-        queue,
-        features,
-        allowance,
-    }
 }
 
 /// A run that raises with this reason and slot.

@@ -3,7 +3,7 @@ use crate::show;
 use attributes::Attributes;
 
 // c asks for the state; r runs with features and an allowance; f fills a row with four words under an allowance; d rings with a
-// WR; a acknowledges; e enables or disables; t translates. A call that may store also tells every word afterwards.
+// WR; a acknowledges; p clears the pending bit; e enables or disables; t translates. A call that may store also tells every word afterwards.
 pub fn call(verb: u8, w: [u64; 8], kept: &mut [u64], queue: &[u8]) {
     let mut answer = [0u64; 8];
     let code = made(verb, w, &mut *kept, queue, &mut answer);
@@ -21,6 +21,7 @@ fn made(verb: u8, w: [u64; 8], kept: &mut [u64], queue: &[u8], answer: &mut [u64
         b'f' => host::tahvenno_fill(&mut *kept, w[0], w[1], w[2], w[3], w[4], w[5], &mut *answer),
         b'd' => host::tahvenno_doorbell(&mut *kept, w[0], &mut *answer),
         b'a' => host::tahvenno_acknowledge(&mut *kept, &mut *answer),
+        b'p' => host::tahvenno_clear_pending(&mut *kept, &mut *answer),
         b'e' => host::tahvenno_enable(&mut *kept, w[0], &mut *answer),
         _ => translated(&*kept, w, &mut *answer),
     }

@@ -34,8 +34,12 @@ cmdqenBits = bits 49 49
 abbrev pub log2sizeBits : Range
 log2sizeBits = bits 54 50
 
+-- document 02, T-08: a completion interrupt is pending
+abbrev pub pendingBits : Range
+pendingBits = bits 55 55
+
 abbrev pub zeroBits : Range
-zeroBits = bits 63 55
+zeroBits = bits 63 56
 
 abbrev pub rd : ℕ → ℕ
 rd w = get rdBits w
@@ -58,6 +62,9 @@ cmdqen w = get cmdqenBits w
 abbrev pub log2size : ℕ → ℕ
 log2size w = get log2sizeBits w
 
+abbrev pub pending : ℕ → ℕ
+pending w = get pendingBits w
+
 -- all of them but the zero one
 unfoldable pub fieldsOf : ℕ → Fields
 fieldsOf w =
@@ -69,11 +76,15 @@ fieldsOf w =
       gerrorn = gerrorn w;
       cmdqen = cmdqen w;
       log2size = log2size w;
+      pending = pending w;
     }
 
 -- the largest LOG2SIZE (document 02, T-06)
 abbrev pub maxLog2 : ℕ
 maxLog2 = 12
+
+abbrev pub isPending : ℕ → Bool
+isPending w = eqb (pending w) 1
 
 -- an error is active
 unfoldable pub active : ℕ → Bool

@@ -7,6 +7,7 @@ pub use word::active;
 pub use word::fields_of;
 pub use word::gerror_of;
 pub use word::log2size_of;
+pub use word::pending_of;
 pub use word::rd_of;
 pub use word::slot_of;
 pub use word::standing_of;
@@ -35,4 +36,5 @@ pub struct Fields {
     pub gerrorn: u64,
     pub cmdqen: u64,
     pub log2size: u64,
+    pub pending: u64,
 }

@@ -26,3 +26,7 @@ pub const CMDQEN_LOW: u64 = 49;
 pub const LOG2SIZE_HIGH: u64 = 54;
 
 pub const LOG2SIZE_LOW: u64 = 50;
+
+pub const PENDING_HIGH: u64 = 55;
+
+pub const PENDING_LOW: u64 = 55;

@@ -5,7 +5,7 @@ use crate::Standing;
 use crate::places;
 ghost use mathlib.Core.Path.{_≡_};
 ghost use Prim.Native.Nat.{_≤_, _<_};
-ghost use Rattle.control.specs.Control.{rd, wr, err, gerror, gerrorn, cmdqen, log2size, fieldsOf, active, wellFormed, standing, slot};
+ghost use Rattle.control.specs.Control.{rd, wr, err, gerror, gerrorn, cmdqen, log2size, pending, fieldsOf, active, wellFormed, standing, slot};
 
 // The largest LOG2SIZE.
 pub const MAX_LOG2: u64 = 12;
@@ -53,6 +53,13 @@ pub fn log2size_of(w: u64) -> u64
     words::part(w, places::LOG2SIZE_HIGH, places::LOG2SIZE_LOW)
 }
 
+// Document 02, T-08: whether a completion interrupt is pending.
+pub fn pending_of(w: u64) -> u64
+    ensures { λ r. ⌜ r ≡ pending w ⌝ }
+{
+    words::part(w, places::PENDING_HIGH, places::PENDING_LOW)
+}
+
 pub fn fields_of(w: u64) -> Fields
     ensures { λ r. ⌜ r ≡ fieldsOf w ⌝ }
 {
@@ -64,6 +71,7 @@ pub fn fields_of(w: u64) -> Fields
         gerrorn: gerrorn_of(w),
         cmdqen: cmdqen_of(w),
         log2size: log2size_of(w),
+        pending: pending_of(w),
     }
 }
 
@@ -76,7 +84,7 @@ pub fn active(w: u64) -> bool
 pub fn well_formed(w: u64) -> bool
     ensures { λ r. ⌜ r ≡ wellFormed w ⌝ }
 {
-    (words::part(w, 63, 55) == 0)
+    (words::part(w, 63, 56) == 0)
         & (log2size_of(w) <= MAX_LOG2)
         & indexes::well_formed(log2size_of(w), rd_of(w), wr_of(w))
         & (err_of(w) <= 1)

@@ -7,8 +7,8 @@ use Prim.Native.Nat.{ℕ, _<_}
 use native.Mathlib.Omega.{arith}
 use lib.ListN.{length}
 use Rattle.words.specs.Outcomes.{with}
-use Rattle.control.specs.Control.{active}
-use Rattle.control_stores.specs.Stores.{mayRing, rung, acknowledged, switched}
+use Rattle.control.specs.Control.{active, isPending}
+use Rattle.control_stores.specs.Stores.{mayRing, rung, acknowledged, pended, switched}
 use Rattle.image.specs.declared.Refusal.{Refusal}
 use Rattle.image.specs.declared.Checked.the-variants.{Accepted, Refused}
 use Rattle.image.specs.Image.{controlOf, check}
@@ -17,8 +17,10 @@ use Rattle.control_calls.specs.declared.DoorbellRefusal.the-variants.{Im
 use Rattle.control_calls.specs.declared.DoorbellAnswer.the-variants.{Refused as NotRung, Rung}
 use Rattle.control_calls.specs.declared.AcknowledgeRefusal.the-variants.{Image as OfImage, NoError}
 use Rattle.control_calls.specs.declared.AcknowledgeAnswer.the-variants.{Refused as NotAcknowledged, Acknowledged}
+use Rattle.control_calls.specs.declared.ClearRefusal.the-variants.{Image as InImage, NotPending}
+use Rattle.control_calls.specs.declared.ClearAnswer.the-variants.{Refused as NotCleared, Cleared}
 use Rattle.control_calls.specs.declared.EnableAnswer.the-variants.{Refused as NotSwitched, Switched}
-use Rattle.control_calls.specs.Calls.{stored, doorbell, acknowledge, enable}
+use Rattle.control_calls.specs.Calls.{stored, doorbell, acknowledge, clearPending, enable}
 
 module _ (m : List ℕ) where
   -- an accepted image has a control word
@@ -50,6 +52,19 @@ module _ (m : List ℕ) where
       → acknowledge m ≡ with Acknowledged (stored m (acknowledged (controlOf m)))
   unfolding acknowledge
   acknowledge-stores n e t = rw (e, t)
+
+  pub clear-image : (why : Refusal) → check m ≡ Refused why → clearPending m ≡ with (NotCleared (InImage why)) m
+  unfolding clearPending
+  clear-image why e = rw e
+
+  pub clear-none : (n : ℕ) → check m ≡ Accepted n → isPending (controlOf m) ≡ false → clearPending m ≡ with (NotCleared NotPending) m
+  unfolding clearPending
+  clear-none n e t = rw (e, t)
+
+  pub clear-stores : (n : ℕ) → check m ≡ Accepted n → isPending (controlOf m) ≡ true
+      → clearPending m ≡ with Cleared (stored m (pended (controlOf m) false))
+  unfolding clearPending
+  clear-stores n e t = rw (e, t)
 
   pub enable-image : (on : Bool) (why : Refusal) → check m ≡ Refused why → enable m on ≡ with (NotSwitched why) m
   unfolding enable

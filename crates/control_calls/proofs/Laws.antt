@@ -1,4 +1,4 @@
--- What doorbell, acknowledge and enable leave, and what repeating them does.
+-- What doorbell, acknowledge, clearing and enable leave, and what repeating them does.
 -- Document 01, One run: each is one control store and is not cut.
 -- Assumes nothing.
 use mathlib.Core.Path.{_≡_, refl, sym, ap, _∙_}
@@ -6,7 +6,7 @@ use mathlib.Core.Bool.{Bool, true, false}
 use mathlib.Core.List.{List}
 use Prim.Native.Nat.{ℕ, _<_}
 use native.Mathlib.Omega.{arith}
-use lib.Dec.{T}
+use lib.Dec.{T, eqb}
 use lib.ListN.{length}
 use lib.Seq.{getD-set-same, set-set}
 use Rattle.words.specs.Choice.{pick}
@@ -15,8 +15,8 @@ use Rattle.words.specs.Ranges.{Range, get}
 use Rattle.words.proofs.Parts.{apart}
 use Rattle.control.specs.Control as control
 use Rattle.control.proofs.Formed.{Formed, formed, is-formed}
-use Rattle.control_stores.specs.Stores.{mayRing, rung, acknowledged, switched}
-use Rattle.control_stores.proofs.AfterStores.{rung-keeps, rung-sets, rung-formed, acknowledged-keeps, acknowledged-sets, acknowledged-quiet, acknowledged-formed, switched-keeps, switched-sets, switched-formed}
+use Rattle.control_stores.specs.Stores.{mayRing, rung, acknowledged, pended, switched}
+use Rattle.control_stores.proofs.AfterStores.{rung-keeps, rung-sets, rung-formed, acknowledged-keeps, acknowledged-sets, acknowledged-quiet, acknowledged-formed, pended-keeps, pended-sets, pended-formed, switched-keeps, switched-sets, switched-formed}
 use Rattle.image.specs.declared.Refusal.{Refusal}
 use Rattle.image.specs.declared.Checked.{Checked}
 use Rattle.image.specs.declared.Checked.the-variants.{Accepted, Refused}
@@ -31,10 +31,14 @@ use Rattle.control_calls.specs.declared.AcknowledgeRefusal.{AcknowledgeR
 use Rattle.control_calls.specs.declared.AcknowledgeRefusal.the-variants.{Image as OfImage, NoError}
 use Rattle.control_calls.specs.declared.AcknowledgeAnswer.{AcknowledgeAnswer}
 use Rattle.control_calls.specs.declared.AcknowledgeAnswer.the-variants.{Refused as NotAcknowledged, Acknowledged}
+use Rattle.control_calls.specs.declared.ClearRefusal.{ClearRefusal}
+use Rattle.control_calls.specs.declared.ClearRefusal.the-variants.{Image as InImage, NotPending}
+use Rattle.control_calls.specs.declared.ClearAnswer.{ClearAnswer}
+use Rattle.control_calls.specs.declared.ClearAnswer.the-variants.{Refused as NotCleared, Cleared}
 use Rattle.control_calls.specs.declared.EnableAnswer.{EnableAnswer}
 use Rattle.control_calls.specs.declared.EnableAnswer.the-variants.{Refused as NotSwitched, Switched}
-use Rattle.control_calls.specs.Calls.{stored, doorbell, acknowledge, enable}
-use Rattle.control_calls.proofs.Cases.{doorbell-image, doorbell-index, doorbell-rings, acknowledge-image, acknowledge-none, acknowledge-stores, enable-image, enable-stores}
+use Rattle.control_calls.specs.Calls.{stored, doorbell, acknowledge, clearPending, enable}
+use Rattle.control_calls.proofs.Cases.{doorbell-image, doorbell-index, doorbell-rings, acknowledge-image, acknowledge-none, acknowledge-stores, clear-image, clear-none, clear-stores, enable-image, enable-stores}
 use Rattle.control_calls.proofs.Twice.{rung-again, may-ring-again, switched-again}
 
 -- Which way a call with outcome o goes from the memory m. Refused: nothing is stored. Or, from an accepted image on
@@ -182,6 +186,52 @@ module _ (m : List ℕ) where
   pub acknowledge-again : (n : ℕ) → Accepts m n → acknowledge (acknowledge m .memory) ≡ with (NotAcknowledged NoError) (acknowledge m .memory)
   acknowledge-again n a =
       acknowledge-none (acknowledge m .memory) n (accepts (acknowledge m .memory) n (acknowledge-accepted n a)) (acknowledge-quiet n a)
+
+-- Document 02, T-08
+module _ (m : List ℕ) where
+  abbrev clears : ℕ
+  clears = pended (controlOf m) false
+
+  abbrev pub ClearWay : Type 0
+  ClearWay = Way m (clearPending m) NotCleared Cleared (control.isPending (controlOf m)) clears
+
+  pub clear-way : ClearWay
+  clear-way = by-check (check m) refl
+    where
+      by-test : (n : ℕ) → check m ≡ Accepted n → (t : Bool) → control.isPending (controlOf m) ≡ t → ClearWay
+      by-test n e false t = stops NotPending (clear-none m n e t)
+      by-test n e true t = stores n (says m .accepted n e) t (clear-stores m n e t)
+
+      by-check : (k : Checked) → check m ≡ k → ClearWay
+      by-check (Refused why) e = stops (InImage why) (clear-image m why e)
+      by-check (Accepted n) e = by-test n e (control.isPending (controlOf m)) refl
+
+  pub clear-keeps-rows : (j : ℕ) → rowAt (clearPending m .memory) j ≡ rowAt m j
+  clear-keeps-rows j = rows-stay clear-way j
+
+  -- every part of the control word but the pending bit
+  pub clear-keeps : (r : Range) → T (apart control.pendingBits r) → get r (controlOf (clearPending m .memory)) ≡ get r (controlOf m)
+  clear-keeps r t = part-stays clear-way r (pended-keeps (controlOf m) false r t)
+
+  pub clear-refused : (why : ClearRefusal) → clearPending m .answer ≡ NotCleared why → clearPending m .memory ≡ m
+  clear-refused why r = refusal-stores-nothing clear-way (λ y e. never (cc)) why r
+
+  pub clear-accepted : (n : ℕ) → Accepts m n → Accepts (clearPending m .memory) n
+  clear-accepted n a = stays-accepted clear-way (λ t f. pended-formed (controlOf m) false f) n a
+
+  -- nothing is pending after it
+  pub clear-quiet : (n : ℕ) → Accepts m n → control.isPending (controlOf (clearPending m .memory)) ≡ false
+  clear-quiet n a = by-test (control.isPending (controlOf m)) refl
+    where
+      by-test : (t : Bool) → control.isPending (controlOf m) ≡ t → control.isPending (controlOf (clearPending m .memory)) ≡ false
+      by-test false t = rw (ap (λ (o : Outcome (List ℕ) ClearAnswer). o .memory) (clear-none m n (accepts m n a) t)) t
+      by-test true t =
+          rw (ap (λ (o : Outcome (List ℕ) ClearAnswer). o .memory) (clear-stores m n (accepts m n a) t), stored-word m n clears a)
+          (ap (λ (x : ℕ). eqb x 1) (pended-sets (controlOf m) false))
+
+  -- so that clearing again is refused, and stores nothing
+  pub clear-again : (n : ℕ) → Accepts m n → clearPending (clearPending m .memory) ≡ with (NotCleared NotPending) (clearPending m .memory)
+  clear-again n a = clear-none (clearPending m .memory) n (accepts (clearPending m .memory) n (clear-accepted n a)) (clear-quiet n a)
 
 module _ (m : List ℕ) (on : Bool) where
   abbrev switches : ℕ

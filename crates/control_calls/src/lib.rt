@@ -1,7 +1,7 @@
-// The calls that store only the control word: doorbell, acknowledge, enable or disable. Each makes one store, or none.
+// The calls that store only the control word: doorbell, acknowledge, clear pending, enable or disable. Each makes one store, or none.
 use image::Checked;
 ghost use Rattle.words.specs.Outcomes.{Gives};
-ghost use Rattle.control_calls.specs.Calls.{doorbell, acknowledge, enable};
+ghost use Rattle.control_calls.specs.Calls.{doorbell, acknowledge, clearPending, enable};
 
 // Why a doorbell is refused: the image, or an index that WR may not become.
 pub enum DoorbellRefusal {
@@ -23,6 +23,17 @@ pub enum AcknowledgeRefusal {
 pub enum AcknowledgeAnswer {
     Refused(AcknowledgeRefusal),
     Acknowledged,
+}
+
+// Why clearing is refused: the image, or no interrupt that is pending.
+pub enum ClearRefusal {
+    Image(image::Refusal),
+    NotPending,
+}
+
+pub enum ClearAnswer {
+    Refused(ClearRefusal),
+    Cleared,
 }
 
 // Enabling and disabling are refused for the image only.
@@ -61,6 +72,23 @@ pub fn acknowledge(kept: &mut [u64]) -> AcknowledgeAnswer
             }
             kept[0] = control_stores::acknowledged(w);
             AcknowledgeAnswer::Acknowledged
+        }
+    }
+}
+
+// Document 02, T-08: the completion interrupt is no longer pending.
+pub fn clear_pending(kept: &mut [u64]) -> ClearAnswer
+    ensures { λ r. ⌜ Gives (clearPending (now (kept .entry))) (now (kept .exit)) r ⌝ }
+{
+    match image::check(&*kept) {
+        Checked::Refused(why) => ClearAnswer::Refused(ClearRefusal::Image(why)),
+        Checked::Accepted(_) => {
+            let w = kept[0];
+            if !(control::pending_of(w) == 1) {
+                return ClearAnswer::Refused(ClearRefusal::NotPending);
+            }
+            kept[0] = control_stores::pended(w, false);
+            ClearAnswer::Cleared
         }
     }
 }

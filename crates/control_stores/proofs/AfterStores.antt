@@ -15,8 +15,8 @@ use Rattle.words.proofs.Parts.{apart, keeps, reads-back, part-lt, allApart, put
 use Rattle.words.proofs.Truth.{left, clash}
 use Rattle.indexes.specs.Indexes as indexes
 use Rattle.indexes.proofs.Laws as indexed
-use Rattle.control.specs.Control.{rdBits, wrBits, errBits, gerrorBits, gerrornBits, cmdqenBits, log2sizeBits, zeroBits, rd, wr, err, gerror, gerrorn, cmdqen, log2size, active, distance, wellFormed}
-use Rattle.control_stores.specs.Stores.{consumed, raised, mayRing, rung, acknowledged, switched}
+use Rattle.control.specs.Control.{rdBits, wrBits, errBits, gerrorBits, gerrornBits, cmdqenBits, log2sizeBits, pendingBits, zeroBits, rd, wr, err, gerror, gerrorn, cmdqen, log2size, pending, active, distance, wellFormed}
+use Rattle.control_stores.specs.Stores.{consumed, raised, mayRing, rung, acknowledged, pended, switched}
 use Rattle.control.proofs.Formed.{Formed, formed, is-formed}
 
 -- the parts that raising the error touches
@@ -162,4 +162,26 @@ module _ (w : ℕ) where
         known = rw (switched-keeps on errBits tt) (f .known);
         told = λ up. switched-keeps on errBits tt
             ∙ f .told (sym (same-active w (switched w on) (switched-keeps on gerrorBits tt) (switched-keeps on gerrornBits tt)) ∙ up);
+      }
+
+  -- the interrupt pending, or no longer
+  pub pended-keeps : (on : Bool) (r : Range) → T (apart pendingBits r) → get r (pended w on) ≡ get r w
+  unfolding pended
+  pended-keeps on r t = keeps pendingBits (pick on 1 0) w r t
+
+  pub pended-sets : (on : Bool) → pending (pended w on) ≡ pick on 1 0
+  unfolding pended
+  pended-sets true = reads-back pendingBits 1 w tt (lit< tt)
+  pended-sets false = reads-back pendingBits 0 w tt (lit< tt)
+
+  pub pended-formed : (on : Bool) → Formed w → Formed (pended w on)
+  pended-formed on f =
+      let n = pended-keeps on log2sizeBits tt in
+      record {
+        zeroes = pended-keeps on zeroBits tt ∙ f .zeroes;
+        small = rw n (f .small);
+        waiting = rw (n, pended-keeps on rdBits tt, pended-keeps on wrBits tt) (f .waiting);
+        known = rw (pended-keeps on errBits tt) (f .known);
+        told = λ up. pended-keeps on errBits tt
+            ∙ f .told (sym (same-active w (pended w on) (pended-keeps on gerrorBits tt) (pended-keeps on gerrornBits tt)) ∙ up);
       }

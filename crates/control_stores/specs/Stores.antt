@@ -6,7 +6,7 @@ use lib.Dec.{leb}
 use Rattle.words.specs.Choice.{pick}
 use Rattle.words.specs.Ranges.{set}
 use Rattle.indexes.specs.Indexes as indexes
-use Rattle.control.specs.Control.{rdBits, wrBits, errBits, gerrorBits, gerrornBits, cmdqenBits, rd, gerror, log2size, distance}
+use Rattle.control.specs.Control.{rdBits, wrBits, errBits, gerrorBits, gerrornBits, cmdqenBits, pendingBits, rd, gerror, log2size, distance}
 
 -- a command consumed: RD forward by one
 unfoldable pub consumed : ℕ → ℕ
@@ -27,6 +27,10 @@ rung w v = set wrBits v w
 -- the error acknowledged: GERRORN made equal to GERROR
 unfoldable pub acknowledged : ℕ → ℕ
 acknowledged w = set gerrornBits (gerror w) w
+
+-- document 02, T-08: the completion interrupt pending, or no longer
+unfoldable pub pended : ℕ → Bool → ℕ
+pended w on = set pendingBits (pick on 1 0) w
 
 -- the queue enabled or disabled
 unfoldable pub switched : ℕ → Bool → ℕ

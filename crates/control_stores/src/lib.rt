@@ -5,7 +5,7 @@ use control::places;
 use control::rd_of;
 use control::wr_of;
 ghost use mathlib.Core.Path.{_≡_};
-ghost use Rattle.control_stores.specs.Stores.{consumed, raised, mayRing, rung, acknowledged, switched};
+ghost use Rattle.control_stores.specs.Stores.{consumed, raised, mayRing, rung, acknowledged, pended, switched};
 
 pub fn consumed(w: u64) -> u64
     ensures { λ r. ⌜ r ≡ consumed w ⌝ }
@@ -49,6 +49,16 @@ pub fn acknowledged(w: u64) -> u64
     ensures { λ r. ⌜ r ≡ acknowledged w ⌝ }
 {
     words::put(w, places::GERRORN_HIGH, places::GERRORN_LOW, gerror_of(w))
+}
+
+// Document 02, T-08: the completion interrupt pending, or no longer.
+pub fn pended(w: u64, on: bool) -> u64
+    ensures { λ r. ⌜ r ≡ pended w on ⌝ }
+{
+    if on {
+        return words::put(w, places::PENDING_HIGH, places::PENDING_LOW, 1);
+    }
+    words::put(w, places::PENDING_HIGH, places::PENDING_LOW, 0)
 }
 
 pub fn switched(w: u64, on: bool) -> u64

@@ -38,8 +38,7 @@ module _ {f : Features} {d : Decoded} {from : ℕ} {m : List ℕ} (r : Ready f d
   pub row-lt : (c : Command) {x : Found} {i : ℕ} → x ≡ scan f c m (rowsIn m - from) from → x ≡ At i → i < rowsIn m
   row-lt c {i = i} e g = found (scopedAt f c m) (rowsIn m) from i (r .high) (sym e ∙ g) .below
 
-  pub made-consumed : {c : Command} {x : Found} {v : ℕ} → d ≡ Legal c → x ≡ scan f c m (rowsIn m - from) from → x ≡ Nothing → v ≡ control-stores.consumed (controlOf m) → Made f d m (set m 0 v) Consumed
-  unfolding afterCommand
+  pub made-consumed : {c : Command} {x : Found} {v : ℕ} → d ≡ Legal c → x ≡ scan f c m (rowsIn m - from) from → x ≡ Nothing → v ≡ afterCommand (Legal c) (controlOf m) → Made f d m (set m 0 v) Consumed
   made-consumed {c} {x} s e g h =
       rw s
       (record {

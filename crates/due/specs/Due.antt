@@ -1,10 +1,12 @@
 -- Document 01, One run: what single store is due, from features, queue and memory alone.
 -- Assumes nothing.
 use mathlib.Core.Path.{_≡_}
-use mathlib.Core.Bool.{Bool}
+use mathlib.Core.Bool.{Bool, true}
 use mathlib.Core.List.{List, [], _∷_}
 use Prim.Native.Nat.{ℕ, _+_, _-_, _*_, _≤_}
+use lib.Dec.{eqb}
 use lib.ListN.{length, set}
+use Rattle.words.specs.Choice.{pick}
 use Rattle.words.specs.Ranges.{Range}
 use Rattle.words.specs.Search.{lowest}
 use Rattle.words.specs.declared.Found.{Found}
@@ -45,12 +47,15 @@ scopedAt f command m i = inScope f command (rowAt m i)
 abbrev pub scan : Features → Command → List ℕ → ℕ → ℕ → Found
 scan f command m n i = lowest (scopedAt f command m) n i
 
--- the control word after a command is consumed, and the parts of it that this touches
+-- the control word after a command is consumed, and the parts of it that this touches: RD goes forward, and a CMD_SYNC with
+-- CS 1 leaves its interrupt pending (document 02, T-08)
 unfoldable pub afterCommand : Decoded → ℕ → ℕ
-afterCommand d w = control-stores.consumed w
+afterCommand d w =
+    let next = control-stores.consumed w in
+    pick (eqb (syncsOf d) 1) (control-stores.pended next true) next
 
 abbrev pub consumes : List Range
-consumes = control.rdBits ∷ []
+consumes = control.rdBits ∷ control.pendingBits ∷ []
 
 -- a legal command: the lowest row in scope goes; once there is none, the command is consumed
 abbrev pub byScan : Command → ℕ → Found → Due

@@ -8,7 +8,8 @@ ghost use mathlib.Core.Path.{_≡_};
 ghost use Prim.Native.Nat.{_+_, _*_, _-_, _≤_};
 ghost use lib.ListN.{length};
 ghost use Rattle.image.specs.Image.{rowsIn};
-ghost use Rattle.due.specs.Due.{scopedAt, scan, Ready, Made};
+ghost use Rattle.due.specs.Due.{scopedAt, scan, afterCommand, Ready, Made};
+ghost use Rattle.commands.specs.declared.Decoded.the-variants.{Legal};
 
 // Document 02, T-09: what a raised error tells: why the command is illegal, and the slot that it is in.
 pub struct Raising {
@@ -49,6 +50,17 @@ fn find_from(kept: &[u64], f: Features, c: Command, from: usize) -> Found
     Found::Nothing
 }
 
+// The control word after a command is consumed: the interrupt of a CMD_SYNC with CS 1 is pending by the same store.
+fn after_command(c: Command, w: u64) -> u64
+    ensures { λ r. ⌜ r ≡ afterCommand (Legal c) w ⌝ }
+{
+    let next = control_stores::consumed(w);
+    if commands::syncs_of(Decoded::Legal(c)) == 1 {
+        return control_stores::pended(next, true);
+    }
+    next
+}
+
 // Makes the store that is due for the command d, of which no row below `from` is in scope. It is a part of a
 // run and no call of the unit, so it may ask something of its caller.
 pub fn step(kept: &mut [u64], f: Features, d: Decoded, from: usize) -> Stepped
@@ -63,7 +75,7 @@ pub fn step(kept: &mut [u64], f: Features, d: Decoded, from: usize) -> Stepped
             }
             Found::Nothing => {
                 let w = kept[0];
-                kept[0] = control_stores::consumed(w);
+                kept[0] = after_command(c, w);
                 Stepped::Consumed
             }
         },

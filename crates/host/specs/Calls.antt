@@ -14,7 +14,7 @@ use Rattle.transactions.specs.declared.Transaction.{Transaction}
 use Rattle.transactions.specs.Call as transactions
 use Rattle.image_state.specs.States as states
 use Rattle.interface.specs.declared.Reply.{Reply}
-use Rattle.interface.specs.Replies.{runReply, fillReply, doorbellReply, acknowledgeReply, enableReply, translateReply, stateReply}
+use Rattle.interface.specs.Replies.{runReply, fillReply, doorbellReply, acknowledgeReply, clearReply, enableReply, translateReply, stateReply}
 use Rattle.host.specs.Told.{telling}
 
 abbrev pub run : ℕ → ℕ → List ℕ → List ℕ → Outcome (List ℕ) Reply
@@ -28,6 +28,10 @@ doorbell wr m = telling doorbellReply (control-calls.doorbell m wr)
 
 abbrev pub acknowledge : List ℕ → Outcome (List ℕ) Reply
 acknowledge m = telling acknowledgeReply (control-calls.acknowledge m)
+
+-- document 02, T-08
+abbrev pub clearPending : List ℕ → Outcome (List ℕ) Reply
+clearPending m = telling clearReply (control-calls.clearPending m)
 
 -- on, if the word is not 0
 abbrev pub enable : ℕ → List ℕ → Outcome (List ℕ) Reply

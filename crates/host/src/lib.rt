@@ -5,7 +5,7 @@ use interface::Reply;
 use rows::Row;
 ghost use Rattle.interface.specs.Asked.{transactionOf};
 ghost use Rattle.host.specs.Told.{Told, Leaves};
-ghost use Rattle.host.specs.Calls.{run, fill, doorbell, acknowledge, enable, translate, state};
+ghost use Rattle.host.specs.Calls.{run, fill, doorbell, acknowledge, clearPending, enable, translate, state};
 
 // Puts a reply's words into the answer, and hands back its number.
 fn tell(answer: &mut [u64; 8], reply: Reply) -> u64
@@ -62,6 +62,14 @@ pub extern "C" fn tahvenno_acknowledge(kept: &mut [u64], answer: &mut [u64; 8]) 
 {
     let a = control_calls::acknowledge(&mut *kept);
     tell(&mut *answer, interface::acknowledge_reply(a))
+}
+
+#[no_mangle]
+pub extern "C" fn tahvenno_clear_pending(kept: &mut [u64], answer: &mut [u64; 8]) -> u64
+    ensures { λ r. ⌜ Leaves (clearPending (now (kept .entry))) (now (kept .exit)) (now (answer .exit)) r ⌝ }
+{
+    let a = control_calls::clear_pending(&mut *kept);
+    tell(&mut *answer, interface::clear_reply(a))
 }
 
 #[no_mangle]

@@ -5,23 +5,26 @@ use mathlib.Core.Bool.{true}
 use mathlib.Core.List.{List}
 use Prim.Native.Nat.{ℕ, _≤_}
 use native.Mathlib.Omega.{arith}
+use Rattle.words.specs.Parts.{part}
+use Rattle.words.specs.Ranges.{get}
 use Rattle.control.specs.Control as control
 use Rattle.control.proofs.Formed as control-formed
 use Rattle.image.specs.declared.Checked.the-variants.{Accepted}
 use Rattle.image.specs.Image.{controlOf, check}
 use Rattle.image.specs.Rules.{Rules, document01, present, FormedBy, AcceptedBy}
-use Rattle.image.proofs.Checks.{Accepts, accepts, says}
+use Rattle.image.proofs.Checks.{accepts, says}
 
 -- every rule is at least as wide
 pub record Wider (old new : Rules) : Type 0 where
   pub log2 : old .mostLog2 ≤ new .mostLog2
   pub rows : old .mostRows ≤ new .mostRows
+  pub zeros : (w : ℕ) → get (old .zeros) w ≡ 0 → get (new .zeros) w ≡ 0
 
 module _ (old new : Rules) (wider : Wider old new) where
   formed-widened : (w : ℕ) → FormedBy old w → FormedBy new w
   formed-widened w f =
       record {
-        zeroes = f .zeroes;
+        zeroes = wider .zeros w (f .zeroes);
         small = omega (arith, f .small, wider .log2);
         rd-in = f .rd-in;
         wr-in = f .wr-in;
@@ -95,7 +98,11 @@ log2-wider = omega arith
 pub rows-wider : document01 .mostRows ≤ present .mostRows
 rows-wider = omega arith
 
+pub zeros-wider : (w : ℕ) → get (document01 .zeros) w ≡ 0 → get (present .zeros) w ≡ 0
+unfolding part
+zeros-wider w e = omega (arith, e)
+
 -- with as many rows; how a row or a control field is read names no rule
 pub still-accepted : (m : List ℕ) (n : ℕ) → AcceptedBy document01 m n → check m ≡ Accepted n
 still-accepted m n a =
-    accepted-now m n (widened document01 present (record { log2 = log2-wider; rows = rows-wider }) m n a)
+    accepted-now m n (widened document01 present (record { log2 = log2-wider; rows = rows-wider; zeros = zeros-wider }) m n a)

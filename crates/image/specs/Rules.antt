@@ -6,27 +6,29 @@ use mathlib.Core.Bool.{true}
 use mathlib.Core.List.{List}
 use Prim.Native.Nat.{ℕ, _+_, _*_, _^_, _≤_, _<_}
 use lib.ListN.{length}
-use Rattle.words.specs.Ranges.{get}
+use Rattle.words.specs.Ranges.{Range, bits, get}
 use Rattle.control.specs.Control.{zeroBits, rd, wr, err, log2size, maxLog2, active, distance}
 use Rattle.row_forms.specs.WellFormed.{wellFormed}
 use Rattle.image.specs.Image.{maxRows, controlOf, rowAt}
 
--- the rules that were widened: the largest LOG2SIZE, and the most rows
+-- the rules that were widened: the largest LOG2SIZE, the most rows, and (T-08) the bits of the control
+-- word that are 0
 pub record Rules : Type 0 where
   pub mostLog2 : ℕ
   pub mostRows : ℕ
+  pub zeros : Range
 
 -- as document 01 has them
 abbrev pub document01 : Rules
-document01 = record { mostLog2 = 8; mostRows = 128 }
+document01 = record { mostLog2 = 8; mostRows = 128; zeros = bits 63 55 }
 
 -- as the check has them
 abbrev pub present : Rules
-present = record { mostLog2 = maxLog2; mostRows = maxRows }
+present = record { mostLog2 = maxLog2; mostRows = maxRows; zeros = zeroBits }
 
 -- a well-formed control word
 pub record FormedBy (rules : Rules) (w : ℕ) : Type 0 where
-  pub zeroes : get zeroBits w ≡ 0
+  pub zeroes : get (rules .zeros) w ≡ 0
   pub small : log2size w ≤ rules .mostLog2
   pub rd-in : rd w < 2 ^ (log2size w + 1)
   pub wr-in : wr w < 2 ^ (log2size w + 1)

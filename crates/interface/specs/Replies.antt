@@ -29,6 +29,10 @@ use Rattle.control_calls.specs.declared.AcknowledgeRefusal.{AcknowledgeRefusal}
 use Rattle.control_calls.specs.declared.AcknowledgeRefusal.the-variants.{Image as Acknowledge·Image, NoError}
 use Rattle.control_calls.specs.declared.AcknowledgeAnswer.{AcknowledgeAnswer}
 use Rattle.control_calls.specs.declared.AcknowledgeAnswer.the-variants.{Refused as NotAcknowledged, Acknowledged}
+use Rattle.control_calls.specs.declared.ClearRefusal.{ClearRefusal}
+use Rattle.control_calls.specs.declared.ClearRefusal.the-variants.{Image as Clear·Image, NotPending}
+use Rattle.control_calls.specs.declared.ClearAnswer.{ClearAnswer}
+use Rattle.control_calls.specs.declared.ClearAnswer.the-variants.{Refused as NotCleared, Cleared}
 use Rattle.control_calls.specs.declared.EnableAnswer.{EnableAnswer}
 use Rattle.control_calls.specs.declared.EnableAnswer.the-variants.{Refused as NotSwitched, Switched}
 use Rattle.control_calls.specs.Calls as control-calls
@@ -116,6 +120,15 @@ acknowledgeRefusal NoError = nothing (control-calls.acknowledgeNumber NoError)
 abbrev pub acknowledgeReply : AcknowledgeAnswer → Reply
 acknowledgeReply (NotAcknowledged why) = acknowledgeRefusal why
 acknowledgeReply Acknowledged = nothing 0
+
+-- document 02, T-08
+abbrev pub clearRefusal : ClearRefusal → Reply
+clearRefusal (Clear·Image why) = imageReply why
+clearRefusal NotPending = nothing (control-calls.clearNumber NotPending)
+
+abbrev pub clearReply : ClearAnswer → Reply
+clearReply (NotCleared why) = clearRefusal why
+clearReply Cleared = nothing 0
 
 abbrev pub enableReply : EnableAnswer → Reply
 enableReply (NotSwitched why) = imageReply why

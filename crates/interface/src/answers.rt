@@ -3,6 +3,8 @@ use crate::Reply;
 use commands::Reason;
 use control_calls::AcknowledgeAnswer;
 use control_calls::AcknowledgeRefusal;
+use control_calls::ClearAnswer;
+use control_calls::ClearRefusal;
 use control_calls::DoorbellAnswer;
 use control_calls::DoorbellRefusal;
 use control_calls::EnableAnswer;
@@ -22,7 +24,7 @@ ghost use mathlib.Core.Path.{_≡_};
 ghost use Rattle.commands.specs.Decoding.{reasonNumber};
 ghost use Rattle.runs.specs.Running as running;
 ghost use Rattle.fills.specs.Fills as fills;
-ghost use Rattle.interface.specs.Replies.{bitOf, nothing, imageReply, reasonIn, slotIn, runRefusal, runReply, fillRefusal, fillReply, doorbellRefusal, doorbellReply, acknowledgeRefusal, acknowledgeReply, enableReply, missNumber, outcomeReply, transactionRefusal, translateReply, stateReply};
+ghost use Rattle.interface.specs.Replies.{bitOf, nothing, imageReply, reasonIn, slotIn, runRefusal, runReply, fillRefusal, fillReply, doorbellRefusal, doorbellReply, acknowledgeRefusal, acknowledgeReply, clearRefusal, clearReply, enableReply, missNumber, outcomeReply, transactionRefusal, translateReply, stateReply};
 
 fn bit_of(on: bool) -> u64
     ensures { λ r. ⌜ r ≡ bitOf on ⌝ }
@@ -209,6 +211,24 @@ pub fn acknowledge_reply(a: AcknowledgeAnswer) -> Reply
     match a {
         AcknowledgeAnswer::Refused(why) => acknowledge_refusal(why),
         AcknowledgeAnswer::Acknowledged => nothing(0),
+    }
+}
+
+fn clear_refusal(why: ClearRefusal) -> Reply
+    ensures { λ r. ⌜ r ≡ clearRefusal why ⌝ }
+{
+    match why {
+        ClearRefusal::Image(r) => image_reply(r),
+        ClearRefusal::NotPending => nothing(12),
+    }
+}
+
+pub fn clear_reply(a: ClearAnswer) -> Reply
+    ensures { λ r. ⌜ r ≡ clearReply a ⌝ }
+{
+    match a {
+        ClearAnswer::Refused(why) => clear_refusal(why),
+        ClearAnswer::Cleared => nothing(0),
     }
 }
 

@@ -3,6 +3,7 @@ mod answers;
 mod asked;
 
 pub use answers::acknowledge_reply;
+pub use answers::clear_reply;
 pub use answers::doorbell_reply;
 pub use answers::enable_reply;
 pub use answers::fill_reply;

@@ -8,6 +8,7 @@ pub mod Finding
 pub mod IllegalCommands
 pub mod LegalCommands
 pub mod RunCalls
+pub mod Pending
 pub mod Transactions
 pub mod Ends
 pub mod Order

@@ -34,7 +34,7 @@ use Rattle.control_calls.specs.Calls as control-calls
 use Rattle.transactions.specs.declared.Transaction.{Transaction}
 use Rattle.transactions.specs.Call as transactions
 use Rattle.due.specs.declared.Raising.{Raising}
-use Rattle.promises.specs.Numbers.{runNumber, fillNumber, doorbellNumber, acknowledgeNumber, enableNumber, translateNumber, Rule, first, some, ofImage, ofRun, ofDoorbell, ofAcknowledge, ofFill, ofTransaction, runEnds, fillEnds}
+use Rattle.promises.specs.Numbers.{runNumber, fillNumber, doorbellNumber, acknowledgeNumber, clearNumber, enableNumber, translateNumber, Rule, first, some, ofImage, ofRun, ofDoorbell, ofAcknowledge, ofClear, ofFill, ofTransaction, runEnds, fillEnds}
 
 -- 1, 2 and 3, and then the numbers of the call's own
 module _ {A : Type 0} (m : List ℕ) (number : A → ℕ) (refuses : Refusal → A) (goes-on : ℕ → A) (rules : List Rule)
@@ -88,6 +88,12 @@ module _ (m : List ℕ) where
   acknowledge-number =
       image-first m (ofAnswer acknowledgeNumber) _ _ (ofAcknowledge m) (λ why. refl)
       (λ n e. through (ofAnswer acknowledgeNumber) (not (control.active (image.controlOf m))) _ _)
+
+  pub clear-number : clearNumber (control-calls.clearPending m .answer) ≡ first (ofImage m ++ ofClear m)
+  unfolding control-calls.clearPending
+  clear-number =
+      image-first m (ofAnswer clearNumber) _ _ (ofClear m) (λ why. refl)
+      (λ n e. through (ofAnswer clearNumber) (not (control.isPending (image.controlOf m))) _ _)
 
   pub enable-number : (on : Bool) → enableNumber (control-calls.enable m on .answer) ≡ first (ofImage m ++ [])
   unfolding control-calls.enable

@@ -27,6 +27,8 @@ use Rattle.control_calls.specs.declared.DoorbellAnswer.{DoorbellAnswer}
 use Rattle.control_calls.specs.declared.DoorbellAnswer.the-variants.{Refused as NotRung, Rung}
 use Rattle.control_calls.specs.declared.AcknowledgeAnswer.{AcknowledgeAnswer}
 use Rattle.control_calls.specs.declared.AcknowledgeAnswer.the-variants.{Refused as NotAcknowledged, Acknowledged}
+use Rattle.control_calls.specs.declared.ClearAnswer.{ClearAnswer}
+use Rattle.control_calls.specs.declared.ClearAnswer.the-variants.{Refused as NotCleared, Cleared}
 use Rattle.control_calls.specs.declared.EnableAnswer.{EnableAnswer}
 use Rattle.control_calls.specs.declared.EnableAnswer.the-variants.{Refused as NotSwitched, Switched}
 use Rattle.control_calls.specs.Calls as control-calls
@@ -52,6 +54,10 @@ doorbellNumber Rung = 0
 abbrev pub acknowledgeNumber : AcknowledgeAnswer → ℕ
 acknowledgeNumber (NotAcknowledged why) = control-calls.acknowledgeNumber why
 acknowledgeNumber Acknowledged = 0
+
+abbrev pub clearNumber : ClearAnswer → ℕ
+clearNumber (NotCleared why) = control-calls.clearNumber why
+clearNumber Cleared = 0
 
 abbrev pub enableNumber : EnableAnswer → ℕ
 enableNumber (NotSwitched why) = image.number why
@@ -91,6 +97,9 @@ ofDoorbell m wr = record { number = 5; applies = not (mayRing (image.controlOf m
 
 abbrev pub ofAcknowledge : List ℕ → List Rule
 ofAcknowledge m = record { number = 6; applies = not (control.active (image.controlOf m)) } ∷ []
+
+abbrev pub ofClear : List ℕ → List Rule
+ofClear m = record { number = 12; applies = not (control.isPending (image.controlOf m)) } ∷ []
 
 abbrev pub ofFill : List ℕ → ℕ → Row → List Rule
 ofFill m row words =

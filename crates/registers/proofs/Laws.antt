@@ -10,7 +10,7 @@ use Rattle.words.specs.Choice.{pick}
 use Rattle.words.proofs.Parts.{part-lt, set-lt}
 use Rattle.words.proofs.Truth.{left, right, and-true, clash}
 use Rattle.control.specs.declared.Fields.{Fields}
-use Rattle.control.specs.Control.{gerrornBits, rdBits, wrBits, errBits, gerrorBits, cmdqenBits, log2sizeBits, zeroBits, gerror, gerrorn, fieldsOf, active, wellFormed}
+use Rattle.control.specs.Control.{gerrornBits, rdBits, wrBits, errBits, gerrorBits, cmdqenBits, log2sizeBits, pendingBits, zeroBits, gerror, gerrorn, fieldsOf, active, wellFormed}
 use Rattle.control_stores.specs.Stores.{acknowledged}
 use Rattle.control.proofs.Formed as control
 use Rattle.control_stores.proofs.AfterStores.{acknowledged-keeps, acknowledged-sets, acknowledged-quiet, acknowledged-formed}
@@ -164,6 +164,7 @@ module _ (f : Fields) (p : fits f ≡ true) where
         acknowledged-sets w,
         acknowledged-keeps w cmdqenBits tt,
         acknowledged-keeps w log2sizeBits tt,
+        acknowledged-keeps w pendingBits tt,
       ) in
       ap (λ (x : Fields). packed (withGerrorn (x .gerror) x)) (sym (unpacked f p)) ∙ sym (ap packed kept)
       ∙ packed-again (acknowledged w) (below (acknowledged w) stored-lt (acknowledged-keeps w zeroBits tt ∙ packed-zero f))
@@ -194,16 +195,17 @@ module _ (w : ℕ) where
         gerrorn = part-lt gerrornBits w;
         cmdqen = part-lt cmdqenBits w;
         log2size = part-lt log2sizeBits w;
+        pending = part-lt pendingBits w;
       })
 
-  pub agree-from : w < 2 ^ 55 → (decided (fieldsOf w) .answer ≡ wordAnswer w) × (packed (afterwards (fieldsOf w)) ≡ wordAfter w)
+  pub agree-from : w < 2 ^ 56 → (decided (fieldsOf w) .answer ≡ wordAnswer w) × (packed (afterwards (fieldsOf w)) ≡ wordAfter w)
   agree-from small =
       let same = packed-again w small in
       let both = agree (fieldsOf w) fields-fit in
       (both .0 ∙ ap wordAnswer same, both .1 ∙ ap wordAfter same)
 
   -- every well-formed word is such a word
-  pub formed-lt : w < 2 ^ 64 → wellFormed w ≡ true → w < 2 ^ 55
+  pub formed-lt : w < 2 ^ 64 → wellFormed w ≡ true → w < 2 ^ 56
   formed-lt h e = below w h (control.formed w e .zeroes)
 
 -- fields that make a well-formed word make one afterwards, and an acknowledged error is not acknowledged twice
@@ -221,7 +223,7 @@ module _ (f : Fields) (e : formed f ≡ true) where
   stored-formed =
       let h = fit f fits-first in
       and-true
-      (is-fit f′ (record { rd = h .rd; wr = h .wr; err = h .err; gerror = h .gerror; gerrorn = h .gerror; cmdqen = h .cmdqen; log2size = h .log2size }))
+      (is-fit f′ (record { rd = h .rd; wr = h .wr; err = h .err; gerror = h .gerror; gerrorn = h .gerror; cmdqen = h .cmdqen; log2size = h .log2size; pending = h .pending }))
       (ap wellFormed (same-store f fits-first)
       ∙ control.is-formed (acknowledged (packed f)) (acknowledged-formed (packed f) (control.formed (packed f) (right (fits f) (wellFormed (packed f)) e))))
 

@@ -8,7 +8,7 @@ use lib.Dec.{ltb}
 use Rattle.words.specs.Choice.{pick}
 use Rattle.words.specs.Ranges.{Range, bits, Field, puts}
 use Rattle.control.specs.declared.Fields.{Fields}
-use Rattle.control.specs.Control.{rdBits, wrBits, errBits, gerrorBits, gerrornBits, cmdqenBits, log2sizeBits, active, wellFormed}
+use Rattle.control.specs.Control.{rdBits, wrBits, errBits, gerrorBits, gerrornBits, cmdqenBits, log2sizeBits, pendingBits, active, wellFormed}
 use Rattle.registers.specs.declared.RegistersRefusal.{RegistersRefusal}
 use Rattle.registers.specs.declared.RegistersRefusal.the-variants.{IllFormed, NoError}
 use Rattle.registers.specs.declared.RegistersAnswer.{RegistersAnswer}
@@ -35,6 +35,7 @@ inParts f =
     ∷ record { at = gerrornBits; value = f .gerrorn }
     ∷ record { at = cmdqenBits; value = f .cmdqen }
     ∷ record { at = log2sizeBits; value = f .log2size }
+    ∷ record { at = pendingBits; value = f .pending }
     ∷ []
 
 unfoldable pub packed : Fields → ℕ
@@ -53,6 +54,7 @@ fits f =
     && fitsIn gerrornBits (f .gerrorn)
     && fitsIn cmdqenBits (f .cmdqen)
     && fitsIn log2sizeBits (f .log2size)
+    && fitsIn pendingBits (f .pending)
 
 -- the fields make a well-formed word: none of them is cut, and the word is well formed
 unfoldable pub formed : Fields → Bool
@@ -69,6 +71,7 @@ withGerrorn v f =
       gerrorn = v;
       cmdqen = f .cmdqen;
       log2size = f .log2size;
+      pending = f .pending;
     }
 
 -- refusal 2, else refusal 6, each with GERRORN as it is; else GERRORN becomes GERROR

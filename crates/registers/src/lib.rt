@@ -31,11 +31,17 @@ pub fn pack(f: Fields) -> u64
     let gerror = words::put(err, places::GERROR_HIGH, places::GERROR_LOW, f.gerror);
     let gerrorn = words::put(gerror, places::GERRORN_HIGH, places::GERRORN_LOW, f.gerrorn);
     let cmdqen = words::put(gerrorn, places::CMDQEN_HIGH, places::CMDQEN_LOW, f.cmdqen);
-    words::put(
+    let log2size = words::put(
         cmdqen,
         places::LOG2SIZE_HIGH,
         places::LOG2SIZE_LOW,
         f.log2size,
+    );
+    words::put(
+        log2size,
+        places::PENDING_HIGH,
+        places::PENDING_LOW,
+        f.pending,
     )
 }
 
@@ -50,6 +56,7 @@ fn fits(f: Fields) -> bool
         & (f.gerrorn < 2)
         & (f.cmdqen < 2)
         & (f.log2size < 0x20)
+        & (f.pending < 2)
 }
 
 // The rule, on the fields by value.

@@ -29,7 +29,7 @@ returns c = made-removed (c .before .before .before .before .before .before .bef
 
 returns-2 : tie.Need-returns-2
 returns-2 c =
-    made-consumed (c .before .before .before .before .before .before .before .before .before .before .pre) (c .before .before .before .before .before .before .before .d .given .1) (c .before .before .before .before .find-from .ensures) (c .before .before .enum-told .given .1) (c .consumed .ensures)
+    made-consumed (c .before .before .before .before .before .before .before .before .before .before .pre) (c .before .before .before .before .before .before .before .d .given .1) (c .before .before .before .before .find-from .ensures) (c .before .before .enum-told .given .1) (c .after-command .ensures)
 
 returns-3 : tie.Need-returns-3
 returns-3 c = search made-raised
