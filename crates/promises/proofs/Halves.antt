@@ -2,13 +2,12 @@
 -- a transaction names no rule of the rows, so such a row means what it meant; and an address of the upper half finds none of them.
 -- Assumes nothing.
 use mathlib.Core.Path.{_≡_, refl}
-use mathlib.Core.Bool.{Bool, true, false, not, _&&_, _||_}
-use mathlib.Core.Logic.{⊎-elim}
+use mathlib.Core.Bool.{true, false, not, _&&_, _||_}
 use Prim.Native.Nat.{ℕ, _^_, _≤_, _<_}
 use native.Mathlib.Omega.{arith}
 use lib.Dec.{eqb}
 use borrow.Author.Tests.{eqb-true, not-true}
-use Rattle.words.proofs.Truth.{left, right, decided}
+use Rattle.words.proofs.Truth.{left, right, never}
 use Rattle.rows.specs.declared.Row.{Row}
 use Rattle.rows.specs.Rows.{stage1, stage2, kind, isEmpty, isLast, isGlobal, vmid, asid, covers}
 use Rattle.rows.proofs.LastLevel.{last-is-used}
@@ -20,10 +19,6 @@ use Rattle.commands.specs.declared.Command.the-variants.{TlbiNhVa, TlbiNhVaa}
 use Rattle.scopes.specs.Scopes.{spared, stageOf, stageAt, addressOf, hasAsid, removes, tooWide, inScope}
 use Rattle.lookups.specs.declared.Wanted.the-variants.{Stage1, Stage2}
 use Rattle.lookups.specs.Lookups.{fits, answers}
-
--- a test fails if it can't pass
-fails : (b : Bool) → (b ≡ true → ⊥) → b ≡ false
-fails b f = ⊎-elim (λ e. absurd (f e)) (λ e. e) (decided b)
 
 module _ (row : Row) (old : wellFormedBy document01 row ≡ true) where
   -- such a row covers no address of the upper half
@@ -50,7 +45,7 @@ module _ (row : Row) (old : wellFormedBy document01 row ≡ true) where
         let at = stageAt row stage1 id target in
         let own = hasAsid row s || isGlobal row in
         let leaf = not (spared row (target .leaf)) in
-        fails (inScope f (TlbiNhVa id s target) row)
+        never (inScope f (TlbiNhVa id s target) row)
         (λ e. missed (not-true (isEmpty row) (left used narrow (left (used && narrow) (at && own && leaf) e)))
         (left at own (left (at && own) leaf (right (used && narrow) (at && own && leaf) e))))
 
@@ -61,7 +56,7 @@ module _ (row : Row) (old : wellFormedBy document01 row ≡ true) where
         let narrow = not (tooWide f (TlbiNhVaa id target)) in
         let at = stageAt row stage1 id target in
         let leaf = not (spared row (target .leaf)) in
-        fails (inScope f (TlbiNhVaa id target) row)
+        never (inScope f (TlbiNhVaa id target) row)
         (λ e. missed (not-true (isEmpty row) (left used narrow (left (used && narrow) (at && leaf) e)))
         (left at leaf (right (used && narrow) (at && leaf) e)))
 
@@ -74,7 +69,7 @@ module _ (row : Row) (old : wellFormedBy document01 row ≡ true) where
       let v = eqb (vmid row) id in
       let g = isGlobal row || eqb (asid row) s in
       let c = covers row a in
-      fails (answers (Stage1 id s a) row)
+      never (answers (Stage1 id s a) row)
       (λ e. let all = right l (k && v && g && c) e in
       not-above stage1 a (last-is-used row (left l (k && v && g && c) e)) (left k v (left (k && v) g (left (k && v && g) c all))) refl refl h (right (k && v && g) c all))
 
@@ -85,6 +80,6 @@ module _ (row : Row) (old : wellFormedBy document01 row ≡ true) where
       let k = eqb (kind row) stage2 in
       let v = eqb (vmid row) id in
       let c = covers row a in
-      fails (answers (Stage2 id a) row)
+      never (answers (Stage2 id a) row)
       (λ e. let all = right l (k && v && c) e in
       not-above stage2 a (last-is-used row (left l (k && v && c) e)) (left k v (left (k && v) c all)) refl refl h (right (k && v) c all))

@@ -21,6 +21,10 @@ pub decided : (b : Bool) → (b ≡ true) ⊎ (b ≡ false)
 decided true = inl refl
 decided false = inr refl
 
+-- a test that can't pass fails
+pub never : (b : Bool) → (b ≡ true → ⊥) → b ≡ false
+never b f = ⊎-elim (λ e. absurd (f e)) (λ e. e) (decided b)
+
 pub less-or-not : (a b : ℕ) → (a < b) ⊎ (b ≤ a)
 less-or-not a b = ⊎-elim (λ e. inl (ltb-true a b e)) (λ e. inr (ltb-false a b e)) (decided (ltb a b))
 
