@@ -7,8 +7,8 @@ pub const LOG2SIZE: u64 = 12;
 /// Rows of a table at most (T-06); at least it has one.
 pub const ROWS: u64 = 1_000;
 
-/// One more than the largest output address, and the largest input address of the
-/// lower half.
+/// One more than the largest output address, and than the largest input address of
+/// the lower half.
 pub const ADDRESS: u64 = 1 << 52;
 /// The least input address of the upper half, which ends with the 64-bit space
 /// (T-04). Stage 1 rows alone have it.

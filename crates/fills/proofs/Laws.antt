@@ -230,7 +230,7 @@ module _ (m : List ℕ) (row : ℕ) (words : Row) where
           let same : n′ ≡ n = cc (accepts m n a, accepts m n′ (c .image)) in
           rw (← same) (stays-accepted m n′ row words c k)
 
--- Document 02, T-04: words that document 01 had filled a row with are not refused now
+-- Document 02, T-04: words fit for a row by document 01 still are
 pub still-fit : (words : Row) → rows.wellFormedBy rows.document01 words ≡ true → isEmpty words ≡ false → fit words ≡ true
 unfolding fit
 still-fit words f s = and-true (still-formed words f) (ap not s)

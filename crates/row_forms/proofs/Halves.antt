@@ -1,6 +1,6 @@
 -- Document 02, T-04: a row lies in one half of the addresses, and what document 01 accepted is still well formed.
 -- Assumes nothing.
-use mathlib.Core.Path.{_≡_, refl, sym, ap, _∙_}
+use mathlib.Core.Path.{_≡_, sym, ap, _∙_}
 use mathlib.Core.Bool.{Bool, true, false, not, _&&_, _||_}
 use Prim.Native.Nat.{ℕ, _+_, _-_, _*_, _/_, _%_, _^_, _≤_, _<_}
 use native.Mathlib.Nat.{div-add-mod'}
@@ -81,8 +81,10 @@ module _ (rules : RowRules) (row : Row) (g : stageGoodBy rules row ≡ true) whe
   begun = right (leb 12 (span row) && leb (span row) 48) (rules .begin (kind row) (span row) (row .w2)) asked
 
 -- the addresses that a stage 1 row covers are of its own half
-pub own-half : (row : Row) → stageGood row ≡ true → kind row ≡ stage1 → (a : ℕ) → covers row a ≡ true → get halfBits a ≡ get halfBits (row .w2)
-own-half row g k a c =
+pub own-half : (row : Row) → wellFormed row ≡ true → isEmpty row ≡ false → kind row ≡ stage1 → (a : ℕ) → covers row a ≡ true
+    → get halfBits a ≡ get halfBits (row .w2)
+own-half row f u k a c =
+    let g = stage-formed present row f u (ap (λ (x : ℕ). eqb x ste) k) (ap (λ (x : ℕ). eqb x cd) k) in
     let within = covers-means row a c in
     let e : row .w2 + (a - row .w2) ≡ a = omega (arith, within .0) in
     ap (λ (x : ℕ). get halfBits x) (sym e)
@@ -147,6 +149,6 @@ module _ (n a : ℕ) (e : placed n a ≡ true) where
 pub rows-wider : Wider document01 present
 rows-wider = record { begin = λ k n a e. placed-begins n a e k }
 
--- no row of document 01 is refused now, in an image or for a fill
+-- no row of document 01 is ill formed now, which is what refusals 3 and 9 ask
 pub still-formed : (row : Row) → wellFormedBy document01 row ≡ true → wellFormed row ≡ true
 still-formed row = formed-widened document01 present rows-wider row

@@ -83,14 +83,14 @@ steGood row =
     (knownConfig (Rows.config row) && attributes.memAttrFormed (Rows.newMemAttr row))
     ((eqb (Rows.span row) 6 || eqb (Rows.span row) 8 || eqb (Rows.span row) 10) && eqb (Rows.stream row % 2 ^ Rows.span row) 0)
 
--- addresses in rows have this many bits, and are multiples of 2 ^ span
+-- output addresses, and input addresses at stage 2, have this many bits, and are multiples of 2 ^ span
 abbrev pub addressBits : ℕ
 addressBits = 52
 
 unfoldable pub placed : ℕ → ℕ → Bool
 placed n a = ltb a (2 ^ addressBits) && eqb (a % 2 ^ n) 0
 
--- Document 02, T-04: the bits above them; in the lower half of the addresses these are all 0, in the upper half all 1
+-- Document 02, T-04: the bits above those; in the lower half of the input addresses at stage 1 they are all 0, in the upper half all 1
 abbrev pub halfBits : Range
 halfBits = bits 63 addressBits
 

@@ -60,7 +60,7 @@ const NAMED: [u64; 32] = [
     0xffff_ffff_ffff_ffff,
 ];
 
-// Addresses in rows have so many bits.
+// Output addresses, and input addresses at stage 2, have so many bits; at stage 1 those above say which half it is.
 const ADDRESS_BITS: u64 = 52;
 
 fn within(w: u64, j: u64) -> bool

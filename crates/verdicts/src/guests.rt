@@ -97,14 +97,14 @@ fn count_one(bytes: &[u8], f: Features, slot: usize, counts: &mut [u64; COUNTS])
     }
 }
 
-// 12, 13, 22, 23 and 2A, legal or not.
+// 12, 13, 22, 23 and 2A, legal or not; of these 2A has no bits for the upper half.
 fn names_address(c: usize) -> bool {
     (c == 0x12) | (c == 0x13) | (c == 0x22) | (c == 0x23) | (c == 0x2a)
 }
 
 fn count_address(w: u64, counts: &mut [u64; COUNTS]) {
     bump(&mut *counts, ADDRESSES);
-    if w >> 63 == 1 {
+    if w >> 52 == 0xfff {
         bump(&mut *counts, UPPER);
     }
 }
