@@ -64,11 +64,17 @@ static void cd_row(struct dice *dice, int last, uint64_t row[4]) {
     }
 }
 
+/* A page of either half. */
+static uint64_t any_page(struct dice *dice) {
+    uint64_t page = PICK(dice, PAGES);
+    return below(dice, 2) ? page | UPPER_HALF : page;
+}
+
 static void stage_row(struct dice *dice, unsigned kind, int last, uint64_t row[4]) {
     uint64_t span = PICK(dice, SPANS), memattr = PICK(dice, TYPES), global = below(dice, 2), asid = PICK(dice, ASIDS);
     row[0] |= span << 5 | PICK(dice, VMIDS) << 16;
     if (kind == 2) row[0] |= global << 4 | asid << 32;
-    row[2] = PICK(dice, PAGES) >> span << span;
+    row[2] = (kind == 2 ? any_page(dice) : PICK(dice, PAGES)) >> span << span;
     if (last) {
         uint64_t hints = kind == 2 ? hints_of(dice, memattr) : 0;
         row[0] |= 8 | (memattr | PICK(dice, SHARES) << 4 | hints << 6) << 48;
@@ -103,7 +109,7 @@ void any_command(struct dice *dice, uint8_t slot[16]) {
                                      0x12, 0x12, 0x12, 0x13, 0x13, 0x28, 0x2A, 0x2A, 0x2A, 0x30, 0x46, 0x46};
     uint64_t code = PICK(dice, codes), low = 0, high = 0;
     uint64_t stream = PICK(dice, STREAMS) << 32, vmid = PICK(dice, VMIDS) << 32, asid = PICK(dice, ASIDS) << 48;
-    uint64_t leaf = below(dice, 2), range = below(dice, 4) ? below(dice, 10) : below(dice, 32), page = PICK(dice, PAGES);
+    uint64_t leaf = below(dice, 2), range = below(dice, 4) ? below(dice, 10) : below(dice, 32), page = any_page(dice);
     switch (code) {
     case 0x01: case 0x02: low = roll(dice) & ~UINT64_C(0x4FF); high = roll(dice); break;
     case 0x03: low = stream; high = leaf; break;
@@ -113,7 +119,8 @@ void any_command(struct dice *dice, uint8_t slot[16]) {
     case 0x10: case 0x28: low = vmid; break;
     case 0x11: low = vmid | asid; break;
     case 0x12: low = vmid | asid; high = page | leaf; break;
-    case 0x13: case 0x2A: low = vmid; high = page | leaf; break;
+    case 0x13: low = vmid; high = page | leaf; break;
+    case 0x2A: low = vmid; high = (page & ~UPPER_HALF) | leaf; break;
     case 0x46: low = below(dice, 3) << 12; high = roll(dice); break;
     }
     put_command(slot, low | code, high);
@@ -198,7 +205,7 @@ void spread_input(struct input *input) {
 
 void damage(struct dice *dice, struct input *input) {
     uint64_t row = below(dice, (input->words - 1) / 4), at = 1 + 4 * row, word = below(dice, 4);
-    switch (below(dice, 8)) {
+    switch (below(dice, 9)) {
     case 0: input->words += 1 + below(dice, 6); break;
     case 1: input->words -= 1 + below(dice, 4); break;
     case 2: case 3: input->kept[0] ^= UINT64_C(1) << below(dice, 64); break;
@@ -206,6 +213,7 @@ void damage(struct dice *dice, struct input *input) {
     case 5: input->kept[at + word] = roll(dice); break;
     case 6: input->kept[at] = (input->kept[at] & ~UINT64_C(0x7E0)) | below(dice, 64) << 5; break;
     case 7: input->bytes += below(dice, 2) ? 16 : UINT64_C(0) - 1; break;
+    case 8: input->kept[at + 2 + word % 2] ^= UPPER_HALF; break;
     }
 }
 
@@ -213,7 +221,7 @@ void any_access(struct dice *dice, struct access *access) {
     access->stream = (uint32_t)PICK(dice, STREAMS);
     access->substream = (uint32_t)PICK(dice, SUBSTREAMS);
     if (below(dice, 16) == 0) access->substream = (uint32_t)roll(dice);
-    access->address = PICK(dice, PAGES);
+    access->address = any_page(dice);
     access->address += below(dice, 0x3000);
     if (below(dice, 16) == 0) access->address = roll(dice);
     access->how = below(dice, 8);

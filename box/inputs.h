@@ -1,5 +1,6 @@
 /* Inputs for the tests of the compiled unit: images, queues and calls from repeatable random numbers, made from the layout that
- * document 01 gives, with the limits of document 02, T-06, and the pending bit of T-08. Nothing here comes from the unit.
+ * document 01 gives, with the upper half of document 02, T-04, the limits of T-06 and the pending bit of T-08. Nothing here comes
+ * from the unit.
  * Identifiers come from small pools, so that rows and commands meet. */
 #ifndef INPUTS_H
 #define INPUTS_H
@@ -31,6 +32,9 @@ extern const struct size LARGEST, SMALL;
 #define SIZE_SHIFT 50
 #define SIZE_BITS UINT64_C(0x1F)
 #define PENDING (UINT64_C(1) << 55)
+
+/* Bits 63:52 of an address: all 0 in the lower half, all 1 in the upper, which stage 1 rows may have as their input. */
+#define UPPER_HALF (~UINT64_C(0) << 52)
 
 struct dice {
     uint64_t state;

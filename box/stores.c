@@ -27,6 +27,7 @@ static struct {
     uint64_t calls, stores, runs, cut, removed, consumed, raised, several, off, held, empty;
     uint64_t made_pending, left_pending, raised_pending;
     uint64_t fills, cut_fills, same_words, same_controls, refused[CALLS], done[CALLS];
+    uint64_t upper_fills, upper_removed;
 } seen;
 
 static void fail(const char *what, ...) {
@@ -152,6 +153,7 @@ static void check_order(const struct input *input, const struct store *stores, s
         if (store->word) {
             if (store->word % 4 != 1 || store->value || !kept[store->word] || store->word < lowest)
                 fail("run: store %zu is no clearing of a higher row: word %zu", i + 1, store->word);
+            seen.upper_removed += kept[store->word + 2] >= UPPER_HALF;
             lowest = store->word + 4;
             rows++;
         } else if (store->value == moved) {
@@ -254,6 +256,7 @@ static void check_fill(struct dice *dice, struct input *input, unsigned kind, in
         check_call(input, &call, expected, count);
         for (size_t store = 0; store < count; store++) seen.same_words += same >> (store + 1) % 4 & 1;
         seen.fills++;
+        seen.upper_fills += call.w[2] >= UPPER_HALF;
         seen.cut_fills += count < 4;
     }
 }
@@ -309,6 +312,8 @@ static void report(void) {
            seen.made_pending, seen.left_pending, seen.raised_pending);
     printf("stores: %" PRIu64 " fills, %" PRIu64 " of them cut, with %" PRIu64 " words that were there already\n", seen.fills,
            seen.cut_fills, seen.same_words);
+    printf("stores: %" PRIu64 " of the fills and %" PRIu64 " of the rows removed have an address of the upper half\n",
+           seen.upper_fills, seen.upper_removed);
     for (enum which which = RUN; which < CALLS; which++) {
         if (which > FILL) printf("stores: %s: %" PRIu64 " carried out, ", CALL_NAMES[which], seen.done[which]);
         else seen.done[which] = 1, printf("stores: %s: ", CALL_NAMES[which]);

@@ -56,6 +56,7 @@ impl Checker {
             answer: std::array::from_fn(|place| answer.inner()[place]),
         };
         let ours = modelled::perform(call, kept, &mut self.tally);
+        self.tally.upper.count(&before, &call, &ours, kept);
 
         let scene = self.scene(&before, call, (theirs, lent.inner()), (ours, kept));
         if theirs != ours || lent.inner() != kept {

@@ -7,8 +7,12 @@ pub const LOG2SIZE: u64 = 12;
 /// Rows of a table at most (T-06); at least it has one.
 pub const ROWS: u64 = 1_000;
 
-/// One more than the largest address of a row.
+/// One more than the largest output address, and than the largest input address of
+/// the lower half.
 pub const ADDRESS: u64 = 1 << 52;
+/// The least input address of the upper half, which ends with the 64-bit space
+/// (T-04). Stage 1 rows alone have it.
+pub const UPPER: u64 = ADDRESS.wrapping_neg();
 /// The spans of a stage row.
 pub const SPANS: std::ops::RangeInclusive<u64> = 12..=48;
 /// The spans of an STE row above the last level.

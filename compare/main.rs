@@ -79,9 +79,11 @@ fn compare(seed: u64, wrong: Option<Wrong>) -> ExitCode {
     phases::cases::cases(&mut checker);
     phases::reasons::cases::cases(&mut checker);
     phases::pending::cases::cases(&mut checker);
+    phases::upper::cases::cases(&mut checker);
     phases::limits::limits(&mut checker);
     phases::reasons::reasons(&mut checker);
     phases::pending::pending(&mut checker);
+    phases::upper::upper(&mut checker);
     phases::commands::sweeps(&mut checker);
     phases::formats::sweeps(&mut checker);
     phases::controls::sweeps(&mut checker);

@@ -2,10 +2,12 @@
 
 mod commands;
 mod pending;
+mod upper;
 
 use crate::call::{Call, Reply, NAMES};
 use commands::Commands;
 use pending::Pending;
+use upper::Upper;
 
 const RUN_ENDS: [&str; 5] = ["Off", "Held", "Empty", "Raised", "Cut"];
 const FILL_ENDS: [&str; 2] = ["Filled", "Cut"];
@@ -32,6 +34,7 @@ pub struct Tally {
     outcomes: [u64; 6],
     pub commands: Commands,
     pub pending: Pending,
+    pub upper: Upper,
     configs: [u64; 8],
     config_hits: [u64; 8],
 }
@@ -74,6 +77,7 @@ impl Tally {
         self.print_configs(&mut table);
         self.commands.print(&mut table);
         self.pending.print(&mut table);
+        self.upper.print(&mut table);
         table.missing
     }
 

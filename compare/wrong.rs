@@ -3,6 +3,7 @@
 
 mod pending;
 mod reasons;
+mod upper;
 
 use crate::call::{Call, NAMES, NUMBERS};
 use crate::generate::random::Random;
@@ -36,6 +37,8 @@ enum Fault {
     Mistold(reasons::Fault),
     /// The pending bit is set, kept or cleared otherwise.
     Pending(pending::Fault),
+    /// The upper half is another.
+    Upper(upper::Fault),
 }
 
 pub struct Wrong {
@@ -87,6 +90,9 @@ pub fn all() -> Vec<Wrong> {
     for (name, fault) in pending::all() {
         add(name, Fault::Pending(fault));
     }
+    for (name, fault) in upper::all() {
+        add(name, Fault::Upper(fault));
+    }
     all
 }
 
@@ -132,6 +138,9 @@ fn caught(wrong: &Wrong) -> bool {
 impl Wrong {
     /// Makes the call as `unit::perform` does, with the fault.
     pub fn perform(&self, call: Call, kept: &mut Lent, answer: &mut Lent) -> u64 {
+        if let Fault::Upper(fault) = self.fault {
+            return fault.perform(call, kept, answer);
+        }
         let before = kept.inner().to_vec();
         let number = match (call, self.seen(call)) {
             (

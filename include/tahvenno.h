@@ -140,9 +140,13 @@ extern "C" {
  *   STE, not last-level  SPAN (6, 8 or 10); STREAM, a multiple of 2^SPAN: a block of that many streams
  *   CD, last-level       ASID; STREAM, SUBSTREAM
  *   CD, not last-level   STREAM
- *   stage 1              VMID, ASID, GLOBAL, SPAN (12 to 48); word 2, the input address, below 2^52 and a multiple of 2^SPAN;
- *                        if last-level also word 3, the output address, by the same rule, and MEMATTR, SH, HINTS
- *   stage 2              as stage 1, without ASID, GLOBAL and HINTS
+ *   stage 1              VMID, ASID, GLOBAL, SPAN (12 to 48); word 2, the input address, a multiple of 2^SPAN whose bits 63:52
+ *                        are all 0 or all 1; if last-level also word 3, the output address, a multiple of 2^SPAN below 2^52,
+ *                        and MEMATTR, SH, HINTS
+ *   stage 2              as stage 1, without ASID, GLOBAL and HINTS, and with word 2 below 2^52
+ *
+ * So the input addresses of stage 1 have a lower half, below 2^52, and an upper one, the last 2^52 of the 64-bit space; a span lies
+ * in one of them, and an address in neither is covered by no row. What comes out of either stage is below 2^52.
  *
  * Only last-level rows answer a transaction, and of several the lowest. The payload of an STE row overrides what comes in:
  * MTCFG 1 takes STE_MEMATTR. SHCFG 0 NSH, 1 as it comes, 2 OSH, 3 ISH. ALLOCCFG, if its bit 3 is set, puts its bits 2, 1, 0 as

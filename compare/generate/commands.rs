@@ -26,7 +26,8 @@ pub fn of_code(random: &mut Random, world: &World, code: u64) -> Command {
     let leaf = random.below(2);
     let any = random.below(32);
     let range = random.pick(&[0, 1, 2, 5, 6, 7, 8, 9, 10, 30, 31, any]);
-    let page = world.page(random) + (random.below(4) << 12);
+    let further = random.below(4) << 12;
+    let page = world.input(random).wrapping_add(further);
     let high_page = if random.once_in(12) {
         page ^ 1 << random.between(52, 63)
     } else {

@@ -1,6 +1,7 @@
 //! Memories and queues with something wrong: mostly refused, sometimes not.
 
 use super::random::Random;
+use crate::limits::{ADDRESS, UPPER};
 
 /// A bit of any word, the control word's as likely as all others'.
 fn flip(random: &mut Random, kept: &mut [u64]) {
@@ -31,6 +32,22 @@ fn edge_span(random: &mut Random, kept: &mut [u64]) {
     }
 }
 
+/// An address moved to the upper half, to the lower, or to neither.
+pub fn elsewhere(random: &mut Random, address: u64) -> u64 {
+    let neither = UPPER ^ 1 << random.between(52, 63);
+    address % ADDRESS | random.pick(&[0, UPPER, UPPER, neither])
+}
+
+/// An address word of some row, input or output.
+fn misplace(random: &mut Random, kept: &mut [u64]) {
+    let rows = (kept.len() as u64 - 1) / 4;
+    if rows > 0 {
+        let place = 1 + 4 * random.below(rows) + random.between(2, 3);
+        let word = &mut kept[place as usize];
+        *word = elsewhere(random, *word);
+    }
+}
+
 /// A word that means nothing.
 fn noise(random: &mut Random, kept: &mut [u64]) {
     kept[random.below(kept.len() as u64) as usize] = random.next();
@@ -49,11 +66,12 @@ fn relength(random: &mut Random, kept: &mut Vec<u64>) {
 /// Damages an accepted memory in one way or two, so that orders are seen.
 pub fn damage(random: &mut Random, kept: &mut Vec<u64>) {
     for _ in 0..random.between(1, 2) {
-        match random.below(12) {
+        match random.below(14) {
             0 | 1 => relength(random, kept),
             2..=5 => flip(random, kept),
             6..=8 => flip_head(random, kept),
             9 | 10 => edge_span(random, kept),
+            11 | 12 => misplace(random, kept),
             _ => noise(random, kept),
         }
         if kept.is_empty() {

@@ -62,7 +62,7 @@ pub fn table(random: &mut Random, world: &World, count: usize) -> Vec<Words> {
         match random.below(8) {
             0 => rows.push(leftover(random, world)),
             1 | 2 => {
-                let (stream, page) = (world.stream(random), world.page(random));
+                let (stream, page) = (world.stream(random), world.input(random));
                 rows.extend(chain(random, world, stream, page));
             }
             _ => rows.push(any_row(random, world)),

@@ -2,7 +2,7 @@
 
 use super::random::Random;
 use super::world::World;
-use crate::limits::BLOCKS;
+use crate::limits::{ADDRESS, BLOCKS};
 
 pub const STAGE1: u64 = 2;
 pub const STAGE2: u64 = 3;
@@ -110,7 +110,11 @@ pub fn reach(random: &mut Random, world: &World, kind: u64) -> Reach {
         asid: world.asid(random),
         global: random.once_in(3),
         span: world.span(random),
-        page: world.page(random),
+        page: if kind == STAGE1 {
+            world.input(random)
+        } else {
+            world.page(random)
+        },
     }
 }
 
@@ -138,7 +142,7 @@ pub fn any_row(random: &mut Random, world: &World) -> Words {
 }
 
 /// Rows through which a transaction at `page` of the stream gets an address,
-/// unless lower rows answer first.
+/// unless lower rows answer first; in the upper half only if stage 1 is there.
 pub fn chain(random: &mut Random, world: &World, stream: u64, page: u64) -> Vec<Words> {
     let (vmid, asid) = (world.vmid(random), world.asid(random));
     let config = random.pick(&[4, 5, 6, 7, 7, 7]);
@@ -151,7 +155,7 @@ pub fn chain(random: &mut Random, world: &World, stream: u64, page: u64) -> Vec<
     let output = world.page(random);
     let block = 1 << first.span;
     let middle = if config == 6 {
-        page
+        page % ADDRESS
     } else {
         output / block * block + page % block
     };

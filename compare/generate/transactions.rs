@@ -4,6 +4,7 @@ use super::random::Random;
 use super::rows::attributes;
 use super::world::World;
 use crate::call::{Asked, Call};
+use crate::limits::UPPER;
 use crate::model::image::rows;
 use crate::model::row::{Kind, Row};
 
@@ -13,9 +14,10 @@ fn some_row(random: &mut Random, kept: &[u64], test: impl Fn(&Row) -> bool) -> O
     (!found.is_empty()).then(|| random.pick(&found))
 }
 
-/// An address in a page of the pool, or at an edge of a row's span.
+/// An address in a page of the pool, at an edge of a row's span, or where the row
+/// would be in the other half or in none.
 pub fn address(random: &mut Random, world: &World, row: Option<Row>) -> u64 {
-    let page = world.page(random) + random.below(0x1000);
+    let page = world.input(random) + random.below(0x1000);
     let Some(row) = row else {
         return page;
     };
@@ -23,7 +25,7 @@ pub fn address(random: &mut Random, world: &World, row: Option<Row>) -> u64 {
     let inside = row.input().wrapping_add(random.below(1 << row.span()));
     let before = row.input().wrapping_sub(1);
     let last = past.wrapping_sub(1);
-    let above = inside | 1 << random.between(52, 63);
+    let in_neither = inside ^ 1 << random.between(52, 63);
     random.pick(&[
         page,
         page,
@@ -34,7 +36,8 @@ pub fn address(random: &mut Random, world: &World, row: Option<Row>) -> u64 {
         inside,
         past,
         before,
-        above,
+        in_neither,
+        inside ^ UPPER,
     ])
 }
 

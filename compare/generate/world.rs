@@ -1,7 +1,7 @@
 //! The small pools that one input draws from.
 
 use super::random::Random;
-use crate::limits::{ADDRESS, SPANS};
+use crate::limits::{ADDRESS, SPANS, UPPER};
 
 pub struct World {
     streams: Vec<u64>,
@@ -9,8 +9,10 @@ pub struct World {
     vmids: Vec<u64>,
     asids: Vec<u64>,
     spans: Vec<u64>,
-    /// Addresses of 4 KiB pages, used as inputs and as outputs.
+    /// Addresses of 4 KiB pages of the lower half, used as inputs and as outputs.
     pages: Vec<u64>,
+    /// What bits 63:52 are in the halves that stage 1 uses: one of them or both.
+    halves: Vec<u64>,
 }
 
 impl World {
@@ -26,6 +28,7 @@ impl World {
             asids: identifiers(random),
             spans: spans(random),
             pages: pages(random),
+            halves: halves(random),
         }
     }
 
@@ -51,6 +54,11 @@ impl World {
 
     pub fn page(&self, random: &mut Random) -> u64 {
         random.pick(&self.pages)
+    }
+
+    /// A page as stage 1 takes it: one of the pool, in a half that is in use.
+    pub fn input(&self, random: &mut Random) -> u64 {
+        self.page(random) | random.pick(&self.halves)
     }
 }
 
@@ -97,4 +105,13 @@ fn pages(random: &mut Random) -> Vec<u64> {
         (page + 0x1000) % ADDRESS,
         random.pick(&[0, ADDRESS - 0x1000]),
     ]
+}
+
+/// Often both, so that a page has a counterpart in the other half.
+fn halves(random: &mut Random) -> Vec<u64> {
+    match random.below(4) {
+        0 => vec![0],
+        1 => vec![UPPER],
+        _ => vec![0, UPPER],
+    }
 }

@@ -1,4 +1,5 @@
-//! Rows: their parts, and which are well formed (document 01, The kept memory).
+//! Rows: their parts, and which are well formed (document 01, The kept memory;
+//! document 02, T-04).
 
 use super::attributes::{memattr_ok, sh_ok, Attributes};
 use super::words::{bit, part, with_part};
@@ -81,7 +82,12 @@ impl Row {
         }
     }
 
-    /// Whether a stage row's span holds the address.
+    /// The last address of an aligned span.
+    pub fn last(&self) -> u64 {
+        self.input() | ((1 << self.span()) - 1)
+    }
+
+    /// Whether a stage row's span holds the address, all 64 bits of it.
     pub fn covers(&self, address: u64) -> bool {
         address >> self.span() == self.input() >> self.span()
     }
@@ -116,7 +122,16 @@ impl Row {
     }
 
     fn reach_ok(&self) -> bool {
-        SPANS.contains(&self.span()) && self.input() < ADDRESS && aligned(self.input(), self.span())
+        SPANS.contains(&self.span()) && aligned(self.input(), self.span()) && self.in_one_half()
+    }
+
+    /// Bits 63:52 all zero, or at stage 1 all one, from the first address of an
+    /// aligned span to its last. One past the last is not formed: it may be 2^64.
+    fn in_one_half(&self) -> bool {
+        let half = |address| part(address, 63, 52);
+        let first = half(self.input());
+        let allowed = first == LOWER || (first == HIGHER && self.kind() == Kind::Stage1);
+        allowed && half(self.last()) == first
     }
 
     fn output_ok(&self) -> bool {
@@ -134,6 +149,10 @@ impl Row {
         rest != [0; 4]
     }
 }
+
+/// Bits 63:52 of the addresses of either half.
+const LOWER: u64 = 0;
+const HIGHER: u64 = 0xFFF;
 
 /// Word, highest and lowest bit of a part.
 type Part = (usize, u32, u32);

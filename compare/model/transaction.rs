@@ -77,7 +77,7 @@ fn walk(kept: &[u64], asked: &Transaction) -> Result<Outcome, Outcome> {
 }
 
 /// The CD of stream and substream, and with its ASID the stage 1 row.
-fn stage1_row(kept: &[u64], ste: &Row, asked: &Transaction) -> Result<Row, Outcome> {
+pub fn stage1_row(kept: &[u64], ste: &Row, asked: &Transaction) -> Result<Row, Outcome> {
     let named = |row: &Row| row.stream() == asked.stream && row.substream() == asked.substream;
     let cd = lookup(kept, Kind::Cd, named).ok_or(Outcome::MissCd)?;
     let fits = |row: &Row| {

@@ -104,17 +104,18 @@ fn pages(checker: &mut Checker) {
         };
         let second = Reach {
             kind: STAGE2,
+            page: first.page % ADDRESS,
             ..first
         };
         let rows = rows_at(&mut random, &world, first, second);
         let start = first.page >> span << span;
-        let past = start + (1 << span);
+        let last = start + ((1 << span) - 1);
         for address in [
             start.wrapping_sub(1),
             start,
-            start / 2 + past / 2,
-            past - 1,
-            past,
+            start + (1 << (span - 1)),
+            last,
+            last.wrapping_add(1),
         ] {
             by_address(checker, &rows, first, address);
             through(checker, &rows, address);
@@ -160,7 +161,7 @@ fn through(checker: &mut Checker, rows: &[Words], address: u64) {
 /// stream n goes through Config n.
 fn rows_at(random: &mut Random, world: &World, first: Reach, second: Reach) -> Vec<Words> {
     let mut rows = vec![first.table(), second.table()];
-    rows.push(first.page(first.page, stage_payload(random, STAGE1)));
+    rows.push(first.page(second.page, stage_payload(random, STAGE1)));
     rows.push(second.page(world.page(random), stage_payload(random, STAGE2)));
     rows.extend((4..8).map(|config| ste(config, first.vmid, config, 1 << 5)));
     rows.extend((4..8).map(|config| cd(config, 0, first.asid)));

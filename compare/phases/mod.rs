@@ -11,6 +11,7 @@ pub mod pending;
 pub mod reasons;
 pub mod sequences;
 pub mod single;
+pub mod upper;
 
 use crate::call::Call;
 use crate::model::control::Control;

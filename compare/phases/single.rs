@@ -3,7 +3,7 @@
 use crate::call::Call;
 use crate::checker::Checker;
 use crate::generate::commands::{allowance, features};
-use crate::generate::damage::{damage, misfit};
+use crate::generate::damage::{damage, elsewhere, misfit};
 use crate::generate::images::{image, leftover, queue_for};
 use crate::generate::random::Random;
 use crate::generate::rows::any_row;
@@ -91,9 +91,11 @@ pub fn any_fill(random: &mut Random, world: &World, kept: &[u64]) -> Call<'stati
         _ => random.pick(&[rows, rows + 1, ROWS, 1 << 32, 1 << 62, u64::MAX]),
     };
     let mut words = any_row(random, world);
+    let place = random.below(4) as usize;
     match random.below(8) {
         0 => words = leftover(random, world),
-        1 => words[random.below(4) as usize] ^= 1 << random.below(64),
+        1 => words[place] ^= 1 << random.below(64),
+        2 if place >= 2 => words[place] = elsewhere(random, words[place]),
         _ => (),
     }
     let large = random.next() << 32 | random.below(4);

@@ -19,6 +19,7 @@ use Rattle.words.proofs.Truth.{left, right, and-true, less-or-not}
 use Rattle.rows.specs.declared.Row.{Row}
 use Rattle.rows.specs.Rows.{isEmpty}
 use Rattle.row_forms.specs.WellFormed as rows
+use Rattle.row_forms.proofs.Halves.{still-formed}
 use Rattle.image.specs.declared.Checked.{Checked}
 use Rattle.image.specs.declared.Checked.the-variants.{Accepted, Refused}
 use Rattle.image.specs.Image.{controlOf, rowAt, isUsed, check}
@@ -228,3 +229,8 @@ module _ (m : List ℕ) (row : ℕ) (words : Row) where
       by-way (stores n′ c) =
           let same : n′ ≡ n = cc (accepts m n a, accepts m n′ (c .image)) in
           rw (← same) (stays-accepted m n′ row words c k)
+
+-- Document 02, T-04: words fit for a row by document 01 still are
+pub still-fit : (words : Row) → rows.wellFormedBy rows.document01 words ≡ true → isEmpty words ≡ false → fit words ≡ true
+unfolding fit
+still-fit words f s = and-true (still-formed words f) (ap not s)

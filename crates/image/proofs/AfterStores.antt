@@ -62,7 +62,7 @@ unfolding emptied
 emptied-empty row = refl
 
 pub empty-formed : (row : Row) → isEmpty row ≡ true → rows.wellFormed row ≡ true
-unfolding rows.wellFormed
+unfolding rows.wellFormedBy
 empty-formed row e = rw e
 
 module _ (m : List ℕ) (n : ℕ) (a : Accepts m n) where

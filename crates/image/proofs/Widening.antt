@@ -9,8 +9,9 @@ use Rattle.words.specs.Parts.{part}
 use Rattle.words.specs.Ranges.{get}
 use Rattle.control.specs.Control as control
 use Rattle.control.proofs.Formed as control-formed
+use Rattle.row_forms.proofs.Halves as row-forms
 use Rattle.image.specs.declared.Checked.the-variants.{Accepted}
-use Rattle.image.specs.Image.{controlOf, check}
+use Rattle.image.specs.Image.{controlOf, rowAt, check}
 use Rattle.image.specs.Rules.{Rules, document01, present, FormedBy, AcceptedBy}
 use Rattle.image.proofs.Checks.{accepts, says}
 
@@ -19,6 +20,7 @@ pub record Wider (old new : Rules) : Type 0 where
   pub log2 : old .mostLog2 ≤ new .mostLog2
   pub rows : old .mostRows ≤ new .mostRows
   pub zeros : (w : ℕ) → get (old .zeros) w ≡ 0 → get (new .zeros) w ≡ 0
+  pub of-rows : row-forms.Wider (old .rows) (new .rows)
 
 module _ (old new : Rules) (wider : Wider old new) where
   formed-widened : (w : ℕ) → FormedBy old w → FormedBy new w
@@ -40,7 +42,7 @@ module _ (old new : Rules) (wider : Wider old new) where
         some = a .some;
         few = omega (arith, a .few, wider .rows);
         control-formed = formed-widened (controlOf m) (a .control-formed);
-        rows-formed = a .rows-formed;
+        rows-formed = λ i h. row-forms.formed-widened (old .rows) (new .rows) (wider .of-rows) (rowAt m i) (a .rows-formed i h);
       }
 
 -- the check accepts exactly what the present rules do
@@ -105,4 +107,4 @@ zeros-wider w e = omega (arith, e)
 -- with as many rows; how a row or a control field is read names no rule
 pub still-accepted : (m : List ℕ) (n : ℕ) → AcceptedBy document01 m n → check m ≡ Accepted n
 still-accepted m n a =
-    accepted-now m n (widened document01 present (record { log2 = log2-wider; rows = rows-wider; zeros = zeros-wider }) m n a)
+    accepted-now m n (widened document01 present (record { log2 = log2-wider; rows = rows-wider; zeros = zeros-wider; of-rows = row-forms.rows-wider }) m n a)

@@ -8,23 +8,25 @@ use Prim.Native.Nat.{ℕ, _+_, _*_, _^_, _≤_, _<_}
 use lib.ListN.{length}
 use Rattle.words.specs.Ranges.{Range, bits, get}
 use Rattle.control.specs.Control.{zeroBits, rd, wr, err, log2size, maxLog2, active, distance}
-use Rattle.row_forms.specs.WellFormed.{wellFormed}
+use Rattle.row_forms.specs.WellFormed as rows
+use Rattle.row_forms.specs.WellFormed.{RowRules}
 use Rattle.image.specs.Image.{maxRows, controlOf, rowAt}
 
--- the rules that were widened: the largest LOG2SIZE, the most rows, and (T-08) the bits of the control
--- word that are 0
+-- the rules that were widened: the largest LOG2SIZE, the most rows, (T-08) the bits of the control word
+-- that are 0, and (T-04) those of the rows
 pub record Rules : Type 0 where
   pub mostLog2 : ℕ
   pub mostRows : ℕ
   pub zeros : Range
+  pub rows : RowRules
 
 -- as document 01 has them
 abbrev pub document01 : Rules
-document01 = record { mostLog2 = 8; mostRows = 128; zeros = bits 63 55 }
+document01 = record { mostLog2 = 8; mostRows = 128; zeros = bits 63 55; rows = rows.document01 }
 
 -- as the check has them
 abbrev pub present : Rules
-present = record { mostLog2 = maxLog2; mostRows = maxRows; zeros = zeroBits }
+present = record { mostLog2 = maxLog2; mostRows = maxRows; zeros = zeroBits; rows = rows.present }
 
 -- a well-formed control word
 pub record FormedBy (rules : Rules) (w : ℕ) : Type 0 where
@@ -42,4 +44,4 @@ pub record AcceptedBy (rules : Rules) (m : List ℕ) (n : ℕ) : Type 0 where
   pub some : 1 ≤ n
   pub few : n ≤ rules .mostRows
   pub control-formed : FormedBy rules (controlOf m)
-  pub rows-formed : (i : ℕ) → i < n → wellFormed (rowAt m i) ≡ true
+  pub rows-formed : (i : ℕ) → i < n → rows.wellFormedBy (rules .rows) (rowAt m i) ≡ true

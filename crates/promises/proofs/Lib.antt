@@ -5,6 +5,7 @@ pub mod Cases
 pub mod Accepted
 pub mod Potential
 pub mod Finding
+pub mod Halves
 pub mod IllegalCommands
 pub mod LegalCommands
 pub mod RunCalls

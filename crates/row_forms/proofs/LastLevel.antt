@@ -16,39 +16,39 @@ use Rattle.attributes.specs.Formats as attributes
 use Rattle.rows.specs.declared.Row.{Row}
 use Rattle.rows.specs.Rows.{ste, cd, kind, isLast, isEmpty, span, config, newMemAttr, validBits, attributesOf}
 use Rattle.rows.proofs.LastLevel.{last-is-used}
-use Rattle.row_forms.specs.WellFormed.{onlyNamed, knownConfig, steGood, addressBits, placed, stageGood, good, wellFormed}
+use Rattle.row_forms.specs.WellFormed.{onlyNamed, knownConfig, steGood, addressBits, placed, begins, stageGood, stageGoodBy, good, goodBy, wellFormed, wellFormedBy}
 
 module _ (row : Row) (f : wellFormed row ≡ true) (l : isLast row ≡ true) where
   last-good : good row ≡ true
-  unfolding wellFormed
+  unfolding wellFormedBy
   last-good =
       ⊎-elim (λ e. clash e (last-is-used row l)) (λ e. right (eqb (get validBits (row .w0)) 1 && onlyNamed row) (good row) e)
       (either (isEmpty row) (eqb (get validBits (row .w0)) 1 && onlyNamed row && good row) f)
 
   -- an STE row has a well-formed MemAttr
   pub ste-mem-attr : eqb (kind row) ste ≡ true → attributes.memAttrFormed (newMemAttr row) ≡ true
-  unfolding good steGood
+  unfolding goodBy steGood
   ste-mem-attr k = right (knownConfig (config row)) (attributes.memAttrFormed (newMemAttr row)) (rw (k, l) at last-good)
 
   -- a stage row has a span and an output address within their limits, and well-formed attributes
   module _ (s : eqb (kind row) ste ≡ false) (c : eqb (kind row) cd ≡ false) where
     stage-good : stageGood row ≡ true
-    unfolding good
+    unfolding goodBy
     stage-good = rw (s, c) at last-good
 
     pub span-few : span row ≤ 48
-    unfolding stageGood
+    unfolding stageGoodBy
     span-few =
         let a = leb 12 (span row) in
         let b = leb (span row) 48 in
-        let p = placed (span row) (row .w2) in
+        let p = begins (kind row) (span row) (row .w2) in
         leb-true (span row) 48 (right a b (left (a && b) p (left (a && b && p) (not (isLast row) || (placed (span row) (row .w3) && attributes.wellFormed (attributesOf row))) stage-good)))
 
     output : (placed (span row) (row .w3) && attributes.wellFormed (attributesOf row)) ≡ true
-    unfolding stageGood
+    unfolding stageGoodBy
     output =
         then-true
-        (right (leb 12 (span row) && leb (span row) 48 && placed (span row) (row .w2))
+        (right (leb 12 (span row) && leb (span row) 48 && begins (kind row) (span row) (row .w2))
         (not (isLast row) || (placed (span row) (row .w3) && attributes.wellFormed (attributesOf row))) stage-good)
         l
 

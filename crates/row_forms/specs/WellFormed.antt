@@ -1,13 +1,13 @@
--- Document 01, The kept memory: which rows are well formed.
+-- Document 01, The kept memory, and document 02, T-04: which rows are well formed.
 -- Assumes nothing.
-use Prim.Native.Nat.{ℕ, _+_, _*_, _%_, _^_}
+use Prim.Native.Nat.{ℕ, _+_, _-_, _*_, _%_, _^_}
 use mathlib.Core.Bool.{Bool, true, not, _&&_, _||_}
 use mathlib.Core.List.{List, [], _∷_, _++_}
 use lib.Dec.{eqb, leb, ltb}
 use lib.ListN.{getD}
 use Rattle.words.specs.Choice.{pick}
 use Rattle.words.specs.Parts.{part}
-use Rattle.words.specs.Ranges.{Range, bits, get, onlyIn}
+use Rattle.words.specs.Ranges.{Range, bits, get, width, onlyIn}
 use Rattle.attributes.specs.Formats as attributes
 use Rattle.rows.specs.declared.Row.{Row}
 use Rattle.rows.specs.Rows
@@ -83,23 +83,59 @@ steGood row =
     (knownConfig (Rows.config row) && attributes.memAttrFormed (Rows.newMemAttr row))
     ((eqb (Rows.span row) 6 || eqb (Rows.span row) 8 || eqb (Rows.span row) 10) && eqb (Rows.stream row % 2 ^ Rows.span row) 0)
 
--- addresses in rows have this many bits, and are multiples of 2 ^ span
+-- output addresses, and input addresses at stage 2, have this many bits, and are multiples of 2 ^ span
 abbrev pub addressBits : ℕ
 addressBits = 52
 
 unfoldable pub placed : ℕ → ℕ → Bool
 placed n a = ltb a (2 ^ addressBits) && eqb (a % 2 ^ n) 0
 
+-- Document 02, T-04: the bits above those; in the lower half of the input addresses at stage 1 they are all 0, in the upper half all 1
+abbrev pub halfBits : Range
+halfBits = bits 63 addressBits
+
+abbrev pub allOnes : ℕ
+allOnes = 2 ^ width halfBits - 1
+
+unfoldable pub inHalf : ℕ → Bool
+inHalf a = eqb (get halfBits a) 0 || eqb (get halfBits a) allOnes
+
+-- where a row of a stage and a span may begin: at stage 1 in either half
+unfoldable pub begins : ℕ → ℕ → ℕ → Bool
+begins kind n a = pick (eqb kind Rows.stage1) (inHalf a && eqb (a % 2 ^ n) 0) (placed n a)
+
+-- The rules that document 02 widens, so that it can be said that a row well formed by narrower ones still is.
+pub record RowRules : Type 0 where
+  pub begin : ℕ → ℕ → ℕ → Bool
+
+-- as document 01 has them
+abbrev pub document01 : RowRules
+document01 = record { begin = λ kind n a. placed n a }
+
+-- as they are
+abbrev pub present : RowRules
+present = record { begin = begins }
+
 -- a stage row: its span, its input address, and in a last-level one the output address and the attributes
-unfoldable pub stageGood : Row → Bool
-stageGood row =
+unfoldable pub stageGoodBy : RowRules → Row → Bool
+stageGoodBy rules row =
     leb 12 (Rows.span row)
     && leb (Rows.span row) 48
-    && placed (Rows.span row) (row .w2)
+    && rules .begin (Rows.kind row) (Rows.span row) (row .w2)
     && (not (Rows.isLast row) || (placed (Rows.span row) (row .w3) && attributes.wellFormed (Rows.attributesOf row)))
 
-unfoldable pub good : Row → Bool
-good row = pick (eqb (Rows.kind row) Rows.ste) (steGood row) (pick (eqb (Rows.kind row) Rows.cd) true (stageGood row))
+unfoldable pub goodBy : RowRules → Row → Bool
+goodBy rules row =
+    pick (eqb (Rows.kind row) Rows.ste) (steGood row) (pick (eqb (Rows.kind row) Rows.cd) true (stageGoodBy rules row))
 
-unfoldable pub wellFormed : Row → Bool
-wellFormed row = Rows.isEmpty row || (eqb (get Rows.validBits (row .w0)) 1 && onlyNamed row && good row)
+unfoldable pub wellFormedBy : RowRules → Row → Bool
+wellFormedBy rules row = Rows.isEmpty row || (eqb (get Rows.validBits (row .w0)) 1 && onlyNamed row && goodBy rules row)
+
+abbrev pub stageGood : Row → Bool
+stageGood row = stageGoodBy present row
+
+abbrev pub good : Row → Bool
+good row = goodBy present row
+
+abbrev pub wellFormed : Row → Bool
+wellFormed row = wellFormedBy present row

@@ -14,7 +14,7 @@ ghost use mathlib.Core.List.{[]};
 ghost use Prim.Native.Nat.{_<_};
 ghost use lib.ListN.{getD};
 ghost use Rattle.words.specs.Ranges.{onlyIn};
-ghost use Rattle.row_forms.specs.WellFormed.{namedParts, shape, onlyNamed, knownConfig, steGood, placed, stageGood, good, wellFormed};
+ghost use Rattle.row_forms.specs.WellFormed.{namedParts, shape, onlyNamed, knownConfig, steGood, placed, inHalf, begins, stageGood, good, wellFormed};
 
 // The bits that may be set in a row's four words, by its kind, not last-level and last-level.
 const NAMED: [u64; 32] = [
@@ -60,6 +60,9 @@ const NAMED: [u64; 32] = [
     0xffff_ffff_ffff_ffff,
 ];
 
+// Output addresses, and input addresses at stage 2, have so many bits; at stage 1 those above say which half it is.
+const ADDRESS_BITS: u64 = 52;
+
 fn within(w: u64, j: u64) -> bool
     requires { ⌜ j < 32 ⌝ }
     ensures { λ r. ⌜ r ≡ onlyIn (getD namedParts j []) w ⌝ }
@@ -101,7 +104,25 @@ fn placed(n: u64, a: u64) -> bool
     requires { ⌜ n < 64 ⌝ }
     ensures { λ r. ⌜ r ≡ placed n a ⌝ }
 {
-    (a < words::power(52)) & (a % words::power(n) == 0)
+    (a < words::power(ADDRESS_BITS)) & (a % words::power(n) == 0)
+}
+
+// Either half of the addresses: the bits above all 0, or all 1.
+fn in_half(a: u64) -> bool
+    ensures { λ r. ⌜ r ≡ inHalf a ⌝ }
+{
+    let above = words::part(a, 63, ADDRESS_BITS);
+    (above == 0) | (above == 0xfff)
+}
+
+fn begins(kind: u64, n: u64, a: u64) -> bool
+    requires { ⌜ n < 64 ⌝ }
+    ensures { λ r. ⌜ r ≡ begins kind n a ⌝ }
+{
+    if kind == kinds::STAGE1 {
+        return in_half(a) & (a % words::power(n) == 0);
+    }
+    placed(n, a)
 }
 
 fn stage_good(row: Row) -> bool
@@ -110,7 +131,7 @@ fn stage_good(row: Row) -> bool
     let span = span_of(row);
     (12 <= span)
         & (span <= 48)
-        & placed(span, row.w2)
+        & begins(kind_of(row), span, row.w2)
         & (!is_last(row) | (placed(span, row.w3) & attributes::well_formed(attributes_of(row))))
 }
 

@@ -15,6 +15,13 @@ ghost use lib.ListN.{length};
 // Commands read at a time, and how often: enough for the longest file.
 const CHUNKS: usize = 64;
 
+// Behind the counts by code and verdict: how many commands name an address, and one of the upper half.
+const ADDRESSES: usize = 1280;
+
+const UPPER: usize = 1281;
+
+const COUNTS: usize = 1282;
+
 pub fn all() {
     let stage1 = commands::features_of(S1P + ASID16);
     let stage2 = commands::features_of(S2P + VMID16);
@@ -35,13 +42,22 @@ fn guest(path: &[u8], f: Features) {
         os::fail(path);
         return;
     }
-    let mut counts = [0u64; 1280];
+    let mut counts = [0u64; COUNTS];
     chunks(fd, f, &mut counts);
     libc::close(fd);
     told(&counts);
+    told_addresses(counts[ADDRESSES], counts[UPPER]);
 }
 
-fn chunks(fd: i32, f: Features, counts: &mut [u64; 1280]) {
+fn told_addresses(named: u64, upper: u64) {
+    say(b"  addresses: ");
+    number(named);
+    say(b", of the upper half ");
+    number(upper);
+    say(b"\n");
+}
+
+fn chunks(fd: i32, f: Features, counts: &mut [u64; COUNTS]) {
     let mut k = 0;
     while k < CHUNKS {
         chunk(fd, f, &mut *counts);
@@ -49,13 +65,13 @@ fn chunks(fd: i32, f: Features, counts: &mut [u64; 1280]) {
     }
 }
 
-fn chunk(fd: i32, f: Features, counts: &mut [u64; 1280]) {
+fn chunk(fd: i32, f: Features, counts: &mut [u64; COUNTS]) {
     let mut buffer = io::buffer();
     let n = io::read_full(fd, &mut buffer);
     count(&buffer[..n], f, &mut *counts);
 }
 
-fn count(bytes: &[u8], f: Features, counts: &mut [u64; 1280]) {
+fn count(bytes: &[u8], f: Features, counts: &mut [u64; COUNTS]) {
     let slots = bytes.len() / 16;
     let mut slot = 0;
     while slot < slots {
@@ -70,12 +86,27 @@ fn wide(x: u8) -> usize
     x as usize
 }
 
-fn count_one(bytes: &[u8], f: Features, slot: usize, counts: &mut [u64; 1280])
+fn count_one(bytes: &[u8], f: Features, slot: usize, counts: &mut [u64; COUNTS])
     requires { ⌜ 16 * slot + 16 ≤ length (now bytes) ⌝ }
 {
     let c = wide(bytes[16 * slot]);
     let column = column_of(commands::decode_at(f, bytes, slot));
     bump(&mut *counts, 256 * column + c);
+    if names_address(c) {
+        count_address(words::word_at(bytes, 16 * slot + 8), &mut *counts);
+    }
+}
+
+// 12, 13, 22, 23 and 2A, legal or not; of these 2A has no bits for the upper half.
+fn names_address(c: usize) -> bool {
+    (c == 0x12) | (c == 0x13) | (c == 0x22) | (c == 0x23) | (c == 0x2a)
+}
+
+fn count_address(w: u64, counts: &mut [u64; COUNTS]) {
+    bump(&mut *counts, ADDRESSES);
+    if w >> 52 == 0xfff {
+        bump(&mut *counts, UPPER);
+    }
 }
 
 // 0 for a legal command, then the reasons in their order.
@@ -93,13 +124,13 @@ fn column_of(d: Decoded) -> usize
     }
 }
 
-fn bump(counts: &mut [u64; 1280], at: usize)
-    requires { ⌜ at < 1280 ⌝ }
+fn bump(counts: &mut [u64; COUNTS], at: usize)
+    requires { ⌜ at < 1282 ⌝ }
 {
     counts[at] = std::num::wrapping_add_u64(counts[at], 1);
 }
 
-fn told(counts: &[u64; 1280]) {
+fn told(counts: &[u64; COUNTS]) {
     let mut c = 0;
     while c < 256 {
         told_one(

@@ -7,6 +7,7 @@ use Prim.Native.Nat.{ℕ, _≤_, _<_}
 use native.Mathlib.Omega.{arith}
 use lib.Dec.{T, ltb}
 use borrow.Author.Tests.{ltb-true, ltb-false}
+use Rattle.words.specs.Choice.{pick}
 
 -- what a computed test says
 pub passed : {b : Bool} → T b → b ≡ true
@@ -19,6 +20,10 @@ clash p q = let z : _≡_ {A = ℕ} 0 1 = cc in absurd (omega arith)
 pub decided : (b : Bool) → (b ≡ true) ⊎ (b ≡ false)
 decided true = inl refl
 decided false = inr refl
+
+-- a test that can't pass fails
+pub never : (b : Bool) → (b ≡ true → ⊥) → b ≡ false
+never b f = ⊎-elim (λ e. absurd (f e)) (λ e. e) (decided b)
 
 pub less-or-not : (a b : ℕ) → (a < b) ⊎ (b ≤ a)
 less-or-not a b = ⊎-elim (λ e. inl (ltb-true a b e)) (λ e. inr (ltb-false a b e)) (decided (ltb a b))
@@ -63,6 +68,19 @@ then-true {a = false} e p = clash p refl
 pub true-then : (a : Bool) {b : Bool} → (a ≡ true → b ≡ true) → (not a || b) ≡ true
 true-then true f = f refl
 true-then false f = refl
+
+-- a conjunction whose second test passes wherever another did; and a disjunction, and a choice
+pub and-widened : (a b : Bool) {c : Bool} → (b ≡ true → c ≡ true) → (a && b) ≡ true → (a && c) ≡ true
+and-widened true b f e = f e
+and-widened false b f e = e
+
+pub or-widened : (a b : Bool) {c : Bool} → (b ≡ true → c ≡ true) → (a || b) ≡ true → (a || c) ≡ true
+or-widened true b f e = refl
+or-widened false b f e = f e
+
+pub pick-widened : (a b c : Bool) {d : Bool} → (c ≡ true → d ≡ true) → pick a b c ≡ true → pick a b d ≡ true
+pick-widened true b c f e = e
+pick-widened false b c f e = f e
 
 -- two tests that pass together are equal
 pub same-test : (a b : Bool) → (a ≡ true → b ≡ true) → (b ≡ true → a ≡ true) → a ≡ b

@@ -1,19 +1,21 @@
 -- `row_forms::stage_good` meets its contract.
 -- Assumes nothing.
-use Rattle.row_forms.specs.WellFormed.{stageGood}
+use Rattle.row_forms.specs.WellFormed.{stageGoodBy}
 use borrow.Author.Needs.{needs}
 use Rattle.row_forms.proofs.stage_good.Statement.{statement}
 use Rattle.row_forms.proofs.stage_good.Tie as tie
 
 returns : tie.Need-returns
-unfolding stageGood
+unfolding stageGoodBy
 returns c =
-    rw (c .well-formed .ensures, c .before .attributes-of .ensures, c .before .before .placed2 .ensures, c .before .before .before .is-last .ensures, c .before .before .before .before .placed .ensures, c .before .before .before .before .before .span-of .ensures .0)
+    let asked = c .before .before .before .before in
+    rw (c .well-formed .ensures, c .before .attributes-of .ensures, c .before .before .placed .ensures, c .before .before .before .is-last .ensures, asked .begins .ensures, asked .before .kind-of .ensures, asked .before .before .span-of .ensures .0)
 
 pub stage-good-spec : {M : Type 1} → statement M
 stage-good-spec =
     tie.close
     (tie.spec
+    (λ c κs. search needs)
     (λ c κs. search needs)
     (λ c κs. search needs)
     (λ c κs. search needs)

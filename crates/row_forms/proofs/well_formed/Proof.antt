@@ -1,12 +1,12 @@
 -- `row_forms::well_formed` meets its contract.
 -- Assumes nothing.
-use Rattle.row_forms.specs.WellFormed.{wellFormed}
+use Rattle.row_forms.specs.WellFormed.{wellFormedBy}
 use borrow.Author.Needs.{needs}
 use Rattle.row_forms.proofs.well_formed.Statement.{statement}
 use Rattle.row_forms.proofs.well_formed.Tie as tie
 
 returns : tie.Need-returns
-unfolding wellFormed
+unfolding wellFormedBy
 returns c =
     rw (c .good2 .ensures, c .before .only-named .ensures, c .before .before .part .ensures)
 
