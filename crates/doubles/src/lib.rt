@@ -59,10 +59,7 @@ fn shares(a: Row, b: Row) -> bool
 fn collides(a: Row, b: Row) -> bool
     ensures { λ r. ⌜ r ≡ collides a b ⌝ }
 {
-    rows::is_last(a)
-        & rows::is_last(b)
-        & (rows::kind_of(a) == rows::kind_of(b))
-        & shares(a, b)
+    rows::is_last(a) & rows::is_last(b) & (rows::kind_of(a) == rows::kind_of(b)) & shares(a, b)
 }
 
 fn collides_at(kept: &[u64], words: Row, i: usize) -> bool
