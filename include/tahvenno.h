@@ -52,9 +52,10 @@
  *
  * DOUBLES. Of two rows that could answer one access the lower would, whichever of them is right. So a fill gets 11 if its words
  * and a row in use are both last-level and of the same kind, and have the same STREAM (STE), the same STREAM and SUBSTREAM (CD), or
- * a common input address and the same VMID (stage 2, and stage 1 if also ASID is the same or either is GLOBAL). Then the walk went
- * wrong, or the row that is there is stale and has to be removed first. Rows that are not last-level double nothing, and so does
- * what a cut fill left. A kept memory that holds doubles already is accepted.
+ * a common input address and the same VMID (stage 2, and stage 1 if also ASID is the same or either is GLOBAL). Then the
+ * row is there already, or it is stale and has to be removed first, or the walk went wrong; docs/BOX.md has what to do. 11 names
+ * no row. Rows that are not last-level double nothing, nor does what a cut fill left. A kept memory that holds doubles already
+ * is accepted.
  *
  * THE INTERRUPT. A guest asks by CMD_SYNC with CS 1 to be interrupted once the commands before it are done. The store that moves
  * RD past such a command also sets PENDING in the control word, and nothing but clear_pending takes it away. So whenever PENDING

@@ -3,22 +3,20 @@
 use mathlib.Core.Path.{_≡_, refl, sym, ap, _∙_}
 use mathlib.Core.Bool.{Bool, true, false, _&&_, _||_}
 use mathlib.Core.List.{List}
-use Prim.Native.Nat.{ℕ, _+_, _-_, _^_, _≤_, _<_}
+use Prim.Native.Nat.{ℕ, _^_, _<_}
 use native.Mathlib.Omega.{arith}
 use lib.Dec.{eqb}
 use borrow.Author.Tests.{eqb-true, eq-eqb}
-use Rattle.words.specs.Choice.{pick}
-use Rattle.words.specs.Spans.{overlap}
 use Rattle.words.specs.Search.{lowest}
 use Rattle.words.specs.declared.Found.{Found}
 use Rattle.words.specs.declared.Found.the-variants.{At, Nothing}
-use Rattle.words.proofs.Truth.{left, right, and-true, same-test, clash}
+use Rattle.words.proofs.Truth.{left, right, and-true, same-test, never, clash}
 use Rattle.words.proofs.Spans.{either-first}
 use Rattle.words.proofs.Search.{from-zero, none, is-none}
 use Rattle.rows.specs.declared.Row.{Row}
-use Rattle.rows.specs.Rows.{ste, cd, stage2, kind, isLast, isGlobal, span, vmid, asid, stream, substream}
+use Rattle.rows.specs.Rows.{kind, isLast, isGlobal, span, vmid, asid, stream, substream}
 use Rattle.image.specs.Image.{rowAt}
-use Rattle.doubles.specs.Doubles.{sameStream, sameContext, sharesAddress, sharesStage, sharesAsid, shares, collides, collidesAt, isFound, doubled}
+use Rattle.doubles.specs.Doubles.{sharesAddress, sharesAsid, shares, collides, collidesAt, isFound, doubled}
 
 -- what both rows of a collision are
 pub record Both (a b : Row) : Type 0 where
@@ -53,7 +51,7 @@ module _ (a b : Row) where
   first-not-last e = rw e
 
   pub second-not-last : isLast b ≡ false → collides a b ≡ false
-  second-not-last e = same-test (collides a b) false (λ c. clash (both c .second-last) e) (λ n. clash n refl)
+  second-not-last e = never (collides a b) (λ c. clash (both c .second-last) e)
 
 -- either way round
 eqb-sym : (x y : ℕ) → eqb x y ≡ eqb y x

@@ -20,7 +20,7 @@ sameStream a b = eqb (rows.stream a) (rows.stream b)
 abbrev pub sameContext : Row → Row → Bool
 sameContext a b = sameStream a b && eqb (rows.substream a) (rows.substream b)
 
--- rows of one VMID that cover a common address
+-- rows that cover a common address, and such of one VMID
 unfoldable pub sharesAddress : Row → Row → Bool
 sharesAddress a b = overlap (a .w2) (2 ^ rows.span a) (b .w2) (2 ^ rows.span b)
 

@@ -1,7 +1,7 @@
 -- Document 02, T-02: rows collide exactly if some lookup is answered by both, so where none do, one row at most answers a lookup.
 -- Assumes nothing.
 use mathlib.Core.Path.{_≡_, refl, sym, _∙_}
-use mathlib.Core.Bool.{Bool, true, false, _&&_, _||_}
+use mathlib.Core.Bool.{true, false, _&&_, _||_}
 use mathlib.Core.List.{List}
 use mathlib.Core.Logic.{_⊎_, inl, inr, ⊎-elim}
 use Prim.Native.Nat.{ℕ, _^_, _<_, max}
@@ -123,6 +123,7 @@ module _ (a b : Row) (c : Both a b) where
         second = and-true (c .second-last) (and-true (and-true (and-true (eq-eqb (kind b) stage1 own) (eq-eqb (vmid b) (vmid a) (sym v))) (second-takes (right (sharesStage a b) (sharesAsid a b) shared))) (second-covers a b x));
       }
 
+-- the lookup found has numbers of the two rows: a stream, a substream, a VMID, an ASID, a beginning
 pub collision-answered : (a b : Row) → collides a b ≡ true → Answered a b
 collision-answered a b e = by-kind (ℕ-discrete (kind a) ste) (ℕ-discrete (kind a) cd) (ℕ-discrete (kind a) stage2)
   where

@@ -10,7 +10,7 @@ use native.Mathlib.Omega.{arith}
 use lib.ListN.{set}
 use Rattle.words.specs.Choice.{pick}
 use Rattle.words.specs.Outcomes.{Outcome}
-use Rattle.words.proofs.Truth.{clash, less-or-not, same-test}
+use Rattle.words.proofs.Truth.{never, clash, less-or-not}
 use Rattle.rows.specs.declared.Row.{Row}
 use Rattle.rows.specs.Rows.{isLast}
 use Rattle.rows.proofs.LastLevel.{empty-not-last}
@@ -94,7 +94,7 @@ fill-single m n row words k a s = by-way (fills.which-way m row words)
         new j h = alone m n′ words (c .alone) j (rw as-many h)
 
         turn : (x y : Row) → collides x y ≡ false → collides y x ≡ false
-        turn x y e = same-test (collides y x) false (λ t. clash (turned y x t) e) (λ t. clash t refl)
+        turn x y e = never (collides y x) (λ t. clash (turned y x t) e)
 
         half : k < 4 → Single after n
         half h = fewer-single m after n (λ j l. by-place j (ℕ-discrete j row)) s
