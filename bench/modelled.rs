@@ -1,10 +1,11 @@
-//! The model's run and transaction as the C interface has them.
+//! The model's run, fill and transaction as the C interface has them.
 //!
 //! They keep their names in the program, by which their instructions are counted.
 
-use crate::answers::{ran, reply, transaction, translated};
+use crate::answers::{filled, ran, reply, transaction, translated};
 use crate::call::{Asked, Reply};
 use crate::model::command::Features;
+use crate::model::fill::fill;
 use crate::model::refusal::Refusal;
 use crate::model::run::run;
 use crate::model::transaction::translate;
@@ -25,6 +26,23 @@ pub unsafe extern "C" fn model_run(
     let features = Features::from_bits(features);
     let report = run(kept, queue, features, allowance, |_, _| ());
     tell(report.map(ran), answer)
+}
+
+#[no_mangle]
+pub unsafe extern "C" fn model_fill(
+    kept: *mut u64,
+    words: usize,
+    row: u64,
+    w0: u64,
+    w1: u64,
+    w2: u64,
+    w3: u64,
+    allowance: u64,
+    answer: *mut u64,
+) -> u64 {
+    let kept = slice::from_raw_parts_mut(kept, words);
+    let outcome = fill(kept, row, [w0, w1, w2, w3], allowance);
+    tell(outcome.map(filled), answer)
 }
 
 #[no_mangle]

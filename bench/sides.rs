@@ -2,26 +2,31 @@
 
 use crate::call::Reply;
 use crate::cases::{Case, Work};
-use crate::interface::{tahvenno_run, tahvenno_translate};
-use crate::modelled::{model_run, model_translate};
+use crate::interface::{tahvenno_fill, tahvenno_run, tahvenno_translate};
+use crate::modelled::{model_fill, model_run, model_translate};
 use std::hint::black_box;
 
 pub type Run = unsafe extern "C" fn(*mut u64, usize, *const u8, usize, u64, u64, *mut u64) -> u64;
 pub type Translate =
     unsafe extern "C" fn(*const u64, usize, u32, u32, u64, u64, u64, u64, u64, *mut u64) -> u64;
 
+pub type Fill = unsafe extern "C" fn(*mut u64, usize, u64, u64, u64, u64, u64, u64, *mut u64) -> u64;
+
 pub struct Side {
     pub run: Run,
+    pub fill: Fill,
     pub translate: Translate,
 }
 
 pub const UNIT: Side = Side {
     run: tahvenno_run,
+    fill: tahvenno_fill,
     translate: tahvenno_translate,
 };
 
 pub const MODEL: Side = Side {
     run: model_run,
+    fill: model_fill,
     translate: model_translate,
 };
 
@@ -40,6 +45,17 @@ impl Side {
                     let (first, bytes) = (queues[call].as_ptr(), queues[call].len());
                     black_box(self.run)(memory, words, first, bytes, *features, u64::MAX, told)
                 }
+                Work::Fill(row, [w0, w1, w2, w3]) => black_box(self.fill)(
+                    memory,
+                    words,
+                    *row,
+                    *w0,
+                    *w1,
+                    *w2,
+                    *w3,
+                    u64::MAX,
+                    told,
+                ),
                 Work::Translate(asked) => black_box(self.translate)(
                     memory,
                     words,

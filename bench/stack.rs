@@ -15,6 +15,7 @@ static SEEN: AtomicUsize = AtomicUsize::new(PLACES);
 
 pub const LOOK: Side = Side {
     run: look_run,
+    fill: look_fill,
     translate: look_translate,
 };
 
@@ -23,6 +24,20 @@ unsafe extern "C" fn look_run(
     _: usize,
     _: *const u8,
     _: usize,
+    _: u64,
+    _: u64,
+    _: *mut u64,
+) -> u64 {
+    look()
+}
+
+unsafe extern "C" fn look_fill(
+    _: *mut u64,
+    _: usize,
+    _: u64,
+    _: u64,
+    _: u64,
+    _: u64,
     _: u64,
     _: u64,
     _: *mut u64,

@@ -96,6 +96,20 @@ void any_row(struct dice *dice, unsigned kind, int last, uint64_t row[4]) {
     else stage_row(dice, kind, last, row);
 }
 
+/* The last address of a stage row; one past it may be 2^64. */
+static uint64_t last_of(const uint64_t row[4]) {
+    return row[2] | ((UINT64_C(1) << (row[0] >> 5 & 63)) - 1);
+}
+
+int doubles(const uint64_t one[4], const uint64_t other[4]) {
+    uint64_t differ = one[0] ^ other[0], ids = one[1] ^ other[1], kind = one[0] >> 1 & 3;
+    if ((one[0] & other[0] & 9) != 9 || differ & 6) return 0; /* valid and last-level, of one kind */
+    if (kind == 0) return (uint32_t)ids == 0;
+    if (kind == 1) return ids << 12 == 0;
+    if (differ >> 16 & 0xFFFF || one[2] > last_of(other) || other[2] > last_of(one)) return 0;
+    return kind == 3 || (differ >> 32 & 0xFFFF) == 0 || (one[0] | other[0]) & 16;
+}
+
 void put_command(uint8_t slot[16], uint64_t low, uint64_t high) {
     for (int i = 0; i < 8; i++) {
         slot[i] = (uint8_t)(low >> 8 * i);

@@ -62,6 +62,9 @@ uint64_t any_width(struct dice *dice);
 void any_row(struct dice *dice, unsigned kind, int last, uint64_t row[4]);
 void some_row(struct dice *dice, uint64_t row[4]);
 
+/* Whether two rows are in use, last-level and could answer the same lookup (document 02, T-02). */
+int doubles(const uint64_t one[4], const uint64_t other[4]);
+
 /* A command of 16 bytes; the second may have a wrong bit or code. */
 void any_command(struct dice *dice, uint8_t slot[16]);
 void spoilt_command(struct dice *dice, uint8_t slot[16]);

@@ -27,7 +27,7 @@ static struct {
     uint64_t calls, stores, runs, cut, removed, consumed, raised, several, off, held, empty;
     uint64_t made_pending, left_pending, raised_pending;
     uint64_t fills, cut_fills, same_words, same_controls, refused[CALLS], done[CALLS];
-    uint64_t upper_fills, upper_removed;
+    uint64_t upper_fills, upper_removed, doubled;
 } seen;
 
 static void fail(const char *what, ...) {
@@ -240,7 +240,8 @@ static void check_runs(struct dice *dice, int full, int random) {
     check_long_run(&input);
 }
 
-/* A fill at each allowance, into a row whose other words hold some of the new ones already. */
+/* A fill at each allowance, into a row whose other words hold some of the new ones already. Rows that it would double are emptied
+ * first. */
 static void check_fill(struct dice *dice, struct input *input, unsigned kind, int last, unsigned same) {
     static const uint64_t allowances[] = {0, 1, 2, 3, 4, 5, UINT64_MAX};
     struct call call = {.which = FILL, .row = below(dice, (input->words - 1) / 4)};
@@ -248,6 +249,8 @@ static void check_fill(struct dice *dice, struct input *input, unsigned kind, in
     struct store expected[4];
     any_row(dice, kind, last, call.w);
     row[0] = 0;
+    for (uint64_t *old = input->kept + 1; old < input->kept + input->words; old += 4)
+        if (doubles(call.w, old)) old[0] = 0;
     for (size_t i = 1; i < 4; i++) row[i] = same >> i & 1 ? call.w[i] : ~call.w[i];
     for (size_t i = 0; i < 4; i++) expected[i] = (struct store){1 + 4 * call.row + (i + 1) % 4, call.w[(i + 1) % 4]};
     for (size_t i = 0; i < sizeof allowances / sizeof allowances[0]; i++) {
@@ -297,6 +300,7 @@ static void check_others(struct dice *dice, int rounds) {
         int stores = !outcome.returned && which <= CLEAR_PENDING;
         check_call(&input, &call, &store, (size_t)stores);
         seen.refused[which] += outcome.returned != 0;
+        seen.doubled += outcome.returned == 11;
         seen.done[which] += outcome.returned == 0;
         seen.same_controls += stores && store.value == input.kept[0];
     }
@@ -314,6 +318,7 @@ static void report(void) {
            seen.cut_fills, seen.same_words);
     printf("stores: %" PRIu64 " of the fills and %" PRIu64 " of the rows removed have an address of the upper half\n",
            seen.upper_fills, seen.upper_removed);
+    printf("stores: %" PRIu64 " fills are refused since they would double a row\n", seen.doubled);
     for (enum which which = RUN; which < CALLS; which++) {
         if (which > FILL) printf("stores: %s: %" PRIu64 " carried out, ", CALL_NAMES[which], seen.done[which]);
         else seen.done[which] = 1, printf("stores: %s: ", CALL_NAMES[which]);

@@ -179,6 +179,7 @@ uint64_t __wrap_tahvenno_fill(uint64_t *kept, size_t words, uint64_t row, uint64
     memcpy(copy, kept, 8 * words);
     uint64_t returned = __real_tahvenno_fill(copy, words, row, w0, w1, w2, w3, allowance, answer);
     if (!returned) store_fill(kept + 1 + 4 * row, (const uint64_t[4]){w0, w1, w2, w3}, answer[1]);
+    if (returned == 11 && fault("fill-refused")) store(kept + 1 + 4 * row, 1, w1);
     return returned;
 }
 

@@ -80,10 +80,12 @@ fn compare(seed: u64, wrong: Option<Wrong>) -> ExitCode {
     phases::reasons::cases::cases(&mut checker);
     phases::pending::cases::cases(&mut checker);
     phases::upper::cases::cases(&mut checker);
+    phases::doubles::cases::cases(&mut checker);
     phases::limits::limits(&mut checker);
     phases::reasons::reasons(&mut checker);
     phases::pending::pending(&mut checker);
     phases::upper::upper(&mut checker);
+    phases::doubles::doubles(&mut checker);
     phases::commands::sweeps(&mut checker);
     phases::formats::sweeps(&mut checker);
     phases::controls::sweeps(&mut checker);

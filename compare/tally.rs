@@ -1,11 +1,13 @@
 //! What was compared: a kind that never occurred has to be seen.
 
 mod commands;
+mod doubles;
 mod pending;
 mod upper;
 
 use crate::call::{Call, Reply, NAMES};
 use commands::Commands;
+use doubles::Doubles;
 use pending::Pending;
 use upper::Upper;
 
@@ -20,8 +22,8 @@ const OUTCOMES: [&str; 6] = [
     "Miss stage 2",
 ];
 const CONFIGS: [usize; 5] = [0, 4, 5, 6, 7];
-/// The refusals that there are. 11 is none today.
-const REFUSALS: [usize; 11] = [1, 2, 3, 4, 5, 6, 7, 8, 9, 10, 12];
+/// The refusals that there are.
+const REFUSALS: [usize; 12] = [1, 2, 3, 4, 5, 6, 7, 8, 9, 10, 11, 12];
 const HIGHEST: usize = REFUSALS[REFUSALS.len() - 1];
 
 #[derive(Default)]
@@ -35,6 +37,7 @@ pub struct Tally {
     pub commands: Commands,
     pub pending: Pending,
     pub upper: Upper,
+    pub doubles: Doubles,
     configs: [u64; 8],
     config_hits: [u64; 8],
 }
@@ -78,6 +81,7 @@ impl Tally {
         self.commands.print(&mut table);
         self.pending.print(&mut table);
         self.upper.print(&mut table);
+        self.doubles.print(&mut table);
         table.missing
     }
 
@@ -119,7 +123,7 @@ fn refusable(call: usize, number: usize) -> bool {
         4 => NAMES[call] == "run",
         5 => NAMES[call] == "doorbell",
         6 => NAMES[call] == "acknowledge",
-        7..=9 => NAMES[call] == "fill",
+        7..=9 | 11 => NAMES[call] == "fill",
         10 => NAMES[call] == "translate",
         _ => NAMES[call] == "clear_pending",
     }

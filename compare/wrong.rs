@@ -1,6 +1,7 @@
 //! Wrong units: the unit with one fault put around it. The comparison has to
 //! catch each of them, and the gate sees to it.
 
+mod doubles;
 mod pending;
 mod reasons;
 mod upper;
@@ -39,6 +40,8 @@ enum Fault {
     Pending(pending::Fault),
     /// The upper half is another.
     Upper(upper::Fault),
+    /// Other fills double a row.
+    Doubles(doubles::Fault),
 }
 
 pub struct Wrong {
@@ -93,6 +96,9 @@ pub fn all() -> Vec<Wrong> {
     for (name, fault) in upper::all() {
         add(name, Fault::Upper(fault));
     }
+    for (name, fault) in doubles::all() {
+        add(name, Fault::Doubles(fault));
+    }
     all
 }
 
@@ -138,8 +144,10 @@ fn caught(wrong: &Wrong) -> bool {
 impl Wrong {
     /// Makes the call as `unit::perform` does, with the fault.
     pub fn perform(&self, call: Call, kept: &mut Lent, answer: &mut Lent) -> u64 {
-        if let Fault::Upper(fault) = self.fault {
-            return fault.perform(call, kept, answer);
+        match self.fault {
+            Fault::Upper(fault) => return fault.perform(call, kept, answer),
+            Fault::Doubles(fault) => return fault.perform(call, kept, answer),
+            _ => (),
         }
         let before = kept.inner().to_vec();
         let number = match (call, self.seen(call)) {

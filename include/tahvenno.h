@@ -28,6 +28,7 @@
  *    8  fill: the row is in use
  *    9  fill: the four words are ill formed or empty
  *   10  translate: MemAttr, SH or hints are ill formed or too wide
+ *   11  fill: the new row and one that is there could answer the same access
  *   12  clear_pending: no interrupt is pending
  *
  * 1, 2 and 3 are tried first, by every call, then the others in this order.
@@ -48,6 +49,13 @@
  * WALK AND FILL. No run may come between the first read of a walk of the guest's tables and the last store of its fill, cut or
  * no cut: the run may consume the command for a change that the walk did not see, and the fill would then make the old mapping
  * valid again. If one came, walk again.
+ *
+ * DOUBLES. Of two rows that could answer one access the lower would, whichever of them is right. So a fill gets 11 if its words
+ * and a row in use are both last-level and of the same kind, and have the same STREAM (STE), the same STREAM and SUBSTREAM (CD), or
+ * a common input address and the same VMID (stage 2, and stage 1 if also ASID is the same or either is GLOBAL). Then the
+ * row is there already, or it is stale and has to be removed first, or the walk went wrong; docs/BOX.md has what to do. 11 names
+ * no row. Rows that are not last-level double nothing, nor does what a cut fill left. A kept memory that holds doubles already
+ * is accepted.
  *
  * THE INTERRUPT. A guest asks by CMD_SYNC with CS 1 to be interrupted once the commands before it are done. The store that moves
  * RD past such a command also sets PENDING in the control word, and nothing but clear_pending takes it away. So whenever PENDING

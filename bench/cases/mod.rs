@@ -69,6 +69,8 @@ pub enum Work {
         features: u64,
     },
     Translate(Asked),
+    /// The row, and the words that it gets.
+    Fill(u64, Words),
 }
 
 pub struct Case {
@@ -111,7 +113,7 @@ impl Case {
     pub fn calls(&self) -> usize {
         match &self.work {
             Work::Runs { queues, .. } => queues.len(),
-            Work::Translate(_) => 1,
+            Work::Translate(_) | Work::Fill(..) => 1,
         }
     }
 
@@ -146,6 +148,7 @@ pub fn all() -> Vec<Case> {
             LARGEST,
         ),
         pages::by_address("h", "as b at the limits", LARGEST),
+        pages::fill(),
     ]
 }
 

@@ -1,7 +1,8 @@
 //! One guest's pages: half the rows are of stage 1 and half of stage 2, and no
 //! command removes any.
 
-use super::{shuffle, Case, Command, Size, STAGE1_PAYLOAD, STAGE2_PAYLOAD, USUAL};
+use super::{memory, shuffle, Case, Command, Per, Size, Work};
+use super::{LARGEST, STAGE1_PAYLOAD, STAGE2_PAYLOAD, USUAL};
 use crate::random::Random;
 use crate::rows::{Reach, Words, STAGE1, STAGE2};
 
@@ -72,4 +73,30 @@ pub fn without_scope() -> Case {
         &rows(USUAL),
         &commands,
     )
+}
+
+/// A page that no row doubles, into the last row: a fill looks at all of them.
+pub fn fill() -> Case {
+    let mut random = Random::new(8);
+    let reach = Reach {
+        kind: STAGE1,
+        vmid: VMID,
+        asid: random.below(ASIDS),
+        global: false,
+        span: 12,
+        page: page(&mut random, 1),
+    };
+    let last = LARGEST.rows - 1;
+    let mut table = rows(LARGEST);
+    table[last] = [0; 4];
+    Case {
+        letter: "i",
+        what: "a fill at the limits, of a page that no row doubles",
+        size: LARGEST,
+        kept: memory(LARGEST, 0, &table),
+        work: Work::Fill(last as u64, reach.page(BLOCK, STAGE1_PAYLOAD)),
+        per: Per::Call,
+        end: 0,
+        removes: None,
+    }
 }

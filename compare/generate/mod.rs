@@ -2,6 +2,7 @@
 
 pub mod commands;
 pub mod damage;
+pub mod doubles;
 pub mod images;
 pub mod random;
 pub mod rows;

@@ -1,4 +1,4 @@
-//! Filling a row (document 01, One run).
+//! Filling a row (document 01, One run; document 02, T-02).
 
 use super::image;
 use super::refusal::Refusal;
@@ -25,8 +25,12 @@ pub fn fill(
     if present.used() {
         return Err(Refusal::RowInUse);
     }
-    if !Row(words).sound() {
+    let new = Row(words);
+    if !new.sound() {
         return Err(Refusal::RowWords);
+    }
+    if image::rows(kept).any(|old| new.doubles(&old)) {
+        return Err(Refusal::Doubled);
     }
     let stores = allowance.min(4);
     for word in [1, 2, 3, 0].into_iter().take(stores as usize) {

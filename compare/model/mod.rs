@@ -9,6 +9,7 @@ pub mod attributes;
 pub mod command;
 pub mod control;
 pub mod control_calls;
+pub mod doubles;
 pub mod fill;
 pub mod image;
 pub mod reason;

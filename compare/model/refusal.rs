@@ -1,4 +1,5 @@
-//! The ways of saying no (document 01, When the unit says no; document 02, T-08).
+//! The ways of saying no (document 01, When the unit says no; document 02, T-02 and
+//! T-08).
 
 #[derive(Clone, Copy, Debug, PartialEq, Eq)]
 pub enum Refusal {
@@ -13,6 +14,7 @@ pub enum Refusal {
     RowInUse,
     RowWords,
     Attributes,
+    Doubled,
     NotPending,
 }
 
@@ -29,6 +31,7 @@ impl Refusal {
             Refusal::RowInUse => 8,
             Refusal::RowWords => 9,
             Refusal::Attributes => 10,
+            Refusal::Doubled => 11,
             Refusal::NotPending => 12,
         }
     }

@@ -5,6 +5,7 @@ use super::{bytes, waiting};
 use crate::call::{Call, CUT};
 use crate::checker::Checker;
 use crate::generate::commands::{features, queue_with};
+use crate::generate::doubles::{fresh, near};
 use crate::generate::images::{control, image, queue_for, shuffle, table, with_rows};
 use crate::generate::random::Random;
 use crate::generate::rows::{any_row, Reach, STAGE1};
@@ -207,7 +208,8 @@ fn chain(checker: &mut Checker, random: &mut Random, work: &Work) {
     checker.insist(equal, SAME, &work.kept, call, (uncut, &kept));
 }
 
-/// Fills with every allowance from 0 to 6, called again until refused as used.
+/// Fills with every allowance from 0 to 6, called again until refused as used, or
+/// each time as doubles.
 fn fills(checker: &mut Checker) {
     let mut random = checker.phase("fills cut at every store");
     for _ in 0..700 {
@@ -216,7 +218,12 @@ fn fills(checker: &mut Checker) {
         let mut rows = table(&mut random, &world, count as usize);
         let row = random.below(count);
         rows[row as usize][0] = 0;
-        let words = any_row(&mut random, &world);
+        let stand = with_rows(waiting(0, 0), &rows);
+        let words = if random.once_in(4) {
+            near(&mut random, &world, &stand)
+        } else {
+            fresh(&mut random, &world, &stand)
+        };
         for allowance in 0..=6 {
             let mut kept = with_rows(control(&mut random, 1), &rows);
             for allowance in [allowance, random.below(4), allowance, 4] {

@@ -5,6 +5,7 @@ pub mod cases;
 pub mod commands;
 pub mod controls;
 pub mod cuts;
+pub mod doubles;
 pub mod formats;
 pub mod limits;
 pub mod pending;

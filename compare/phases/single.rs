@@ -4,6 +4,7 @@ use crate::call::Call;
 use crate::checker::Checker;
 use crate::generate::commands::{allowance, features};
 use crate::generate::damage::{damage, elsewhere, misfit};
+use crate::generate::doubles::{fresh, near};
 use crate::generate::images::{image, leftover, queue_for};
 use crate::generate::random::Random;
 use crate::generate::rows::any_row;
@@ -79,7 +80,8 @@ pub fn any_enable(random: &mut Random) -> Call<'static> {
     }
 }
 
-/// A row number near the table, with words that are mostly well formed.
+/// A row number near the table, with words that are mostly well formed and double
+/// no row.
 pub fn any_fill(random: &mut Random, world: &World, kept: &[u64]) -> Call<'static> {
     let rows = kept.len() as u64 / 4;
     let empty: Vec<u64> = (0..rows)
@@ -90,7 +92,11 @@ pub fn any_fill(random: &mut Random, world: &World, kept: &[u64]) -> Call<'stati
         0..=8 => random.below(rows + 1),
         _ => random.pick(&[rows, rows + 1, ROWS, 1 << 32, 1 << 62, u64::MAX]),
     };
-    let mut words = any_row(random, world);
+    let mut words = match random.below(8) {
+        0 | 1 => near(random, world, kept),
+        2 => any_row(random, world),
+        _ => fresh(random, world, kept),
+    };
     let place = random.below(4) as usize;
     match random.below(8) {
         0 => words = leftover(random, world),

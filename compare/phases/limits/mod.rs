@@ -88,7 +88,7 @@ fn asked() -> Asked {
 }
 
 /// A full table of bystanders, but for the rows given with their places.
-fn table(rows: u64, own: &[(u64, Words)]) -> Vec<Words> {
+pub fn table(rows: u64, own: &[(u64, Words)]) -> Vec<Words> {
     let mut table = vec![cd_table(BYSTANDER); rows as usize];
     for &(place, row) in own {
         table[place as usize] = row;
@@ -97,12 +97,12 @@ fn table(rows: u64, own: &[(u64, Words)]) -> Vec<Words> {
 }
 
 /// Sizes of tables: the least and the largest, and both sides of powers of two.
-fn sizes() -> Vec<u64> {
+pub fn sizes() -> Vec<u64> {
     places(ROWS).into_iter().map(|place| place + 1).collect()
 }
 
 /// Places in a table: its ends, and both sides of powers of two.
-fn places(rows: u64) -> Vec<u64> {
+pub fn places(rows: u64) -> Vec<u64> {
     let powers = (0..63).map(|bit| 1 << bit);
     let within = powers.take_while(|&power| power < rows);
     let mut places: Vec<u64> = within.flat_map(|power| [power - 1, power]).collect();

@@ -14,7 +14,8 @@ use Rattle.image.specs.declared.Refusal.{Refusal}
 use Rattle.image.specs.declared.Checked.the-variants.{Accepted, Refused}
 use Rattle.image.specs.Image.{rowAt, isUsed, check}
 use Rattle.image.proofs.Checks.{says}
-use Rattle.fills.specs.declared.FillRefusal.the-variants.{Image, NoSuchRow, RowInUse, Unfit}
+use Rattle.doubles.specs.Doubles.{doubled}
+use Rattle.fills.specs.declared.FillRefusal.the-variants.{Image, NoSuchRow, RowInUse, Unfit, Doubled}
 use Rattle.fills.specs.declared.Filling.{Filling}
 use Rattle.fills.specs.declared.FillAnswer.{FillAnswer}
 use Rattle.fills.specs.declared.FillAnswer.the-variants.{Done}
@@ -38,6 +39,10 @@ module _ (m : List ℕ) (row : ℕ) where
   pub inside : (n : ℕ) → check m ≡ Accepted n → row < n → 4 * row + 5 ≤ length m
   inside n e h = omega (arith, says m .accepted n e .size .words)
 
+-- and so do all of them
+pub whole : (m : List ℕ) (n : ℕ) → check m ≡ Accepted n → 4 * n + 1 ≤ length m
+whole m n e = omega (arith, says m .accepted n e .size .words)
+
 module _ (m : List ℕ) (row : ℕ) (words : Row) (k : ℕ) where
   pub fill-image : (why : Refusal) → check m ≡ Refused why → fill m row words k ≡ refused (Image why) m
   unfolding fill
@@ -57,9 +62,13 @@ module _ (m : List ℕ) (row : ℕ) (words : Row) (k : ℕ) where
       unfolding fill
       fill-unfit u t = rw (e, lt-leb n row h, u, t)
 
-      pub fill-done : isUsed m row ≡ false → fit words ≡ true → fill m row words k ≡ done m row words k
+      pub fill-doubled : isUsed m row ≡ false → fit words ≡ true → doubled m n words ≡ true → fill m row words k ≡ refused Doubled m
       unfolding fill
-      fill-done u t = rw (e, lt-leb n row h, u, t)
+      fill-doubled u t d = rw (e, lt-leb n row h, u, t, d)
+
+      pub fill-done : isUsed m row ≡ false → fit words ≡ true → doubled m n words ≡ false → fill m row words k ≡ done m row words k
+      unfolding fill
+      fill-done u t d = rw (e, lt-leb n row h, u, t, d)
 
 -- what the stores ensured is the contract met
 pub meets-done : {m m′ : List ℕ} {row : ℕ} {words : Row} {k : ℕ} {r : Filling} → Stores m row words k m′ r

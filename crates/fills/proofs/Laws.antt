@@ -18,6 +18,7 @@ use Rattle.words.proofs.Stores.{after-all, after-length, stores-keep, untouched
 use Rattle.words.proofs.Truth.{left, right, and-true, less-or-not}
 use Rattle.rows.specs.declared.Row.{Row}
 use Rattle.rows.specs.Rows.{isEmpty}
+use Rattle.rows.proofs.LastLevel.{empty-not-last}
 use Rattle.row_forms.specs.WellFormed as rows
 use Rattle.row_forms.proofs.Halves.{still-formed}
 use Rattle.image.specs.declared.Checked.{Checked}
@@ -25,14 +26,16 @@ use Rattle.image.specs.declared.Checked.the-variants.{Accepted, Refused}
 use Rattle.image.specs.Image.{controlOf, rowAt, isUsed, check}
 use Rattle.image.proofs.Checks.{Accepts, accepts, says}
 use Rattle.image.proofs.AfterStores.{InRow, row-kept, control-kept, empty-formed}
+use Rattle.doubles.specs.Doubles.{collides, doubled}
+use Rattle.doubles.proofs.Laws.{second-not-last, alone, is-alone}
 use Rattle.fills.specs.declared.FillEnd.the-variants.{Filled, Cut}
 use Rattle.fills.specs.declared.FillRefusal.{FillRefusal}
-use Rattle.fills.specs.declared.FillRefusal.the-variants.{Image, NoSuchRow, RowInUse, Unfit}
+use Rattle.fills.specs.declared.FillRefusal.the-variants.{Image, NoSuchRow, RowInUse, Unfit, Doubled}
 use Rattle.fills.specs.declared.FillAnswer.{FillAnswer}
 use Rattle.fills.specs.declared.FillAnswer.the-variants.{Refused as NotFilled, Done}
 use Rattle.fills.specs.Fills.{fillStores, fit, report, refused, fill}
 use Rattle.fills.proofs.Order.{each-place, report-cut, report-filled}
-use Rattle.fills.proofs.Cases.{done, fill-image, fill-no-row, fill-in-use, fill-unfit, fill-done}
+use Rattle.fills.proofs.Cases.{done, fill-image, fill-no-row, fill-in-use, fill-unfit, fill-doubled, fill-done}
 
 -- a fill that no refusal stops
 pub record Carried (m : List ℕ) (n row : ℕ) (words : Row) : Type 0 where
@@ -41,6 +44,7 @@ pub record Carried (m : List ℕ) (n row : ℕ) (words : Row) : Type 0 where
   pub empty : isEmpty (rowAt m row) ≡ true
   pub formed : rows.wellFormed words ≡ true
   pub some : isEmpty words ≡ false
+  pub alone : doubled m n words ≡ false
 
 module _ (row : ℕ) (words : Row) where
   -- the memory after k of the stores
@@ -96,7 +100,7 @@ module _ (m : List ℕ) (n row : ℕ) (words : Row) (c : Carried m n row words) 
   pub carried : (k : ℕ) → fill m row words k ≡ done m row words k
   unfolding isUsed fit
   carried k =
-      fill-done m row words k n (accepts m n (c .image)) (c .below) (ap not (c .empty)) (and-true (c .formed) (ap not (c .some)))
+      fill-done m row words k n (accepts m n (c .image)) (c .below) (ap not (c .empty)) (and-true (c .formed) (ap not (c .some))) (c .alone)
 
   -- the memory that it leaves, store by store
   abbrev leaves : ℕ → List ℕ
@@ -157,10 +161,18 @@ module _ (m : List ℕ) (n row : ℕ) (words : Row) (c : Carried m n row words) 
       each j h (yes s) = rw s (this (less-or-not k 4))
       each j h (no d) = rw (other-rows-kept k j d) (c .image .rows-formed j h)
 
+  -- its own half-written row is empty, so it doubles nothing
+  still-alone : (k : ℕ) → k < 4 → doubled (leaves k) n words ≡ false
+  still-alone k h = is-alone (leaves k) n words (λ j l. each j l (ℕ-discrete j row))
+    where
+      each : (j : ℕ) → j < n → Dec (j ≡ row) → collides words (rowAt (leaves k) j) ≡ false
+      each j l (yes s) = rw s (second-not-last words (rowAt (leaves k) row) (empty-not-last (rowAt (leaves k) row) (half-filled k h)))
+      each j l (no d) = rw (other-rows-kept k j d) (alone m n words (c .alone) j l)
+
   -- a cut fill may be made again: nothing refuses it
   pub still-carried : (k : ℕ) → k < 4 → Carried (leaves k) n row words
   still-carried k h =
-      record { image = stays-accepted k; below = c .below; empty = half-filled k h; formed = c .formed; some = c .some }
+      record { image = stays-accepted k; below = c .below; empty = half-filled k h; formed = c .formed; some = c .some; alone = still-alone k h }
 
   -- a finished one repeated, with whatever words, is refused and stores nothing
   pub finished-refuses : (k k′ : ℕ) (words′ : Row) → 4 ≤ k → fill (leaves k) row words′ k′ ≡ refused RowInUse (leaves k)
@@ -193,13 +205,17 @@ module _ (m : List ℕ) (row : ℕ) (words : Row) where
   unfolding isUsed fit
   which-way = by-check (check m) refl
     where
+      by-double : (n : ℕ) → check m ≡ Accepted n → row < n → isUsed m row ≡ false → fit words ≡ true → (t : Bool) → doubled m n words ≡ t → Goes m row words
+      by-double n e h u f true t = stops Doubled (λ k. fill-doubled m row words k n e h u f t)
+      by-double n e h u f false t =
+          let formed : rows.wellFormed words ≡ true = left (rows.wellFormed words) (not (isEmpty words)) f in
+          let some : isEmpty words ≡ false = not-true (isEmpty words) (right (rows.wellFormed words) (not (isEmpty words)) f) in
+          let empty : isEmpty (rowAt m row) ≡ true = not-false (isEmpty (rowAt m row)) u in
+          stores n (record { image = says m .accepted n e; below = h; empty = empty; formed = formed; some = some; alone = t })
+
       by-fit : (n : ℕ) → check m ≡ Accepted n → row < n → isUsed m row ≡ false → (t : Bool) → fit words ≡ t → Goes m row words
       by-fit n e h u false t = stops Unfit (λ k. fill-unfit m row words k n e h u t)
-      by-fit n e h u true t =
-          let formed : rows.wellFormed words ≡ true = left (rows.wellFormed words) (not (isEmpty words)) t in
-          let some : isEmpty words ≡ false = not-true (isEmpty words) (right (rows.wellFormed words) (not (isEmpty words)) t) in
-          let empty : isEmpty (rowAt m row) ≡ true = not-false (isEmpty (rowAt m row)) u in
-          stores n (record { image = says m .accepted n e; below = h; empty = empty; formed = formed; some = some })
+      by-fit n e h u true t = by-double n e h u t (doubled m n words) refl
 
       by-use : (n : ℕ) → check m ≡ Accepted n → row < n → (t : Bool) → isUsed m row ≡ t → Goes m row words
       by-use n e h true u = stops RowInUse (λ k. fill-in-use m row words k n e h u)

@@ -1,4 +1,4 @@
--- Document 01, One run: filling a row. When the unit says no: refusals 7, 8 and 9.
+-- Document 01, One run: filling a row. When the unit says no: refusals 7, 8 and 9, and 11 of document 02, T-02.
 -- Assumes nothing.
 use mathlib.Core.Path.{_≡_}
 use mathlib.Core.Bool.{Bool, not, _&&_}
@@ -12,11 +12,12 @@ use Rattle.rows.specs.declared.Row.{Row}
 use Rattle.rows.specs.Rows.{isEmpty}
 use Rattle.row_forms.specs.WellFormed as rows
 use Rattle.image.specs.Image as image
+use Rattle.doubles.specs.Doubles.{doubled}
 use Rattle.fills.specs.declared.FillEnd.{FillEnd}
 use Rattle.fills.specs.declared.FillEnd.the-variants.{Filled, Cut}
 use Rattle.fills.specs.declared.Filling.{Filling}
 use Rattle.fills.specs.declared.FillRefusal.{FillRefusal}
-use Rattle.fills.specs.declared.FillRefusal.the-variants.{Image, NoSuchRow, RowInUse, Unfit}
+use Rattle.fills.specs.declared.FillRefusal.the-variants.{Image, NoSuchRow, RowInUse, Unfit, Doubled}
 use Rattle.fills.specs.declared.FillAnswer.{FillAnswer}
 use Rattle.fills.specs.declared.FillAnswer.the-variants.{Refused as NotFilled, Done}
 
@@ -26,6 +27,7 @@ number (Image why) = image.number why
 number NoSuchRow = 7
 number RowInUse = 8
 number Unfit = 9
+number Doubled = 11
 
 abbrev pub endNumber : FillEnd → ℕ
 endNumber Filled = 0
@@ -55,14 +57,15 @@ report k = pick (ltb k 4) (record { end = Cut; stores = k }) (record { end = Fil
 abbrev pub refused : FillRefusal → List ℕ → Outcome (List ℕ) FillAnswer
 refused why m = with (NotFilled why) m
 
--- 7, 8 and 9 in their order, and then the stores
+-- 7, 8, 9 and 11 in their order, and then the stores
 unfoldable pub fill : List ℕ → ℕ → Row → ℕ → Outcome (List ℕ) FillAnswer
 fill m row words k =
     image.checked (image.check m) (λ why. refused (Image why) m)
     (λ n. pick (leb n row) (refused NoSuchRow m)
     (pick (image.isUsed m row) (refused RowInUse m)
     (pick (not (fit words)) (refused Unfit m)
-    (with (Done (report k)) (afterStores k (fillStores row words) m)))))
+    (pick (doubled m n words) (refused Doubled m)
+    (with (Done (report k)) (afterStores k (fillStores row words) m))))))
 
 -- what the stores ensure, of the memory m before and m′ after and of what is reported
 pub record Stores (m : List ℕ) (row : ℕ) (words : Row) (k : ℕ) (m′ : List ℕ) (r : Filling) : Type 0 where

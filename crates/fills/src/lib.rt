@@ -25,6 +25,7 @@ pub enum FillRefusal {
     NoSuchRow,
     RowInUse,
     Unfit,
+    Doubled,
 }
 
 pub enum FillAnswer {
@@ -85,7 +86,7 @@ fn steps(kept: &mut [u64], row: usize, words: Row, allowance: u64) -> Filling
     }
 }
 
-// Fills an empty row of an accepted image with fit words.
+// Fills an empty row of an accepted image with fit words that no row doubles.
 pub fn fill(kept: &mut [u64], row: usize, words: Row, allowance: u64) -> FillAnswer
     ensures { λ r. ⌜ Gives (fill (now (kept .entry)) row words allowance) (now (kept .exit)) r ⌝ }
 {
@@ -100,6 +101,9 @@ pub fn fill(kept: &mut [u64], row: usize, words: Row, allowance: u64) -> FillAns
             }
             if !is_fit(words) {
                 return FillAnswer::Refused(FillRefusal::Unfit);
+            }
+            if doubles::doubled(&*kept, n, words) {
+                return FillAnswer::Refused(FillRefusal::Doubled);
             }
             let done = steps(&mut *kept, row, words, allowance);
             FillAnswer::Done(done)

@@ -17,7 +17,7 @@ use Rattle.runs.specs.declared.RunAnswer.the-variants.{Refused as NotRun, Done 
 use Rattle.runs.specs.Running as running
 use Rattle.runs.specs.Call as runs
 use Rattle.fills.specs.declared.FillRefusal.{FillRefusal}
-use Rattle.fills.specs.declared.FillRefusal.the-variants.{Image as Fill·Image, NoSuchRow, RowInUse, Unfit}
+use Rattle.fills.specs.declared.FillRefusal.the-variants.{Image as Fill·Image, NoSuchRow, RowInUse, Unfit, Doubled}
 use Rattle.fills.specs.declared.FillAnswer.{FillAnswer}
 use Rattle.fills.specs.declared.FillAnswer.the-variants.{Refused as NotFilled, Done as DidFill}
 use Rattle.fills.specs.Fills as fills
@@ -98,6 +98,7 @@ fillRefusal (Fill·Image why) = imageReply why
 fillRefusal NoSuchRow = nothing (fills.number NoSuchRow)
 fillRefusal RowInUse = nothing (fills.number RowInUse)
 fillRefusal Unfit = nothing (fills.number Unfit)
+fillRefusal Doubled = nothing (fills.number Doubled)
 
 abbrev pub fillReply : FillAnswer → Reply
 fillReply (NotFilled why) = fillRefusal why

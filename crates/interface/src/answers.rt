@@ -160,6 +160,7 @@ fn fill_refusal(why: FillRefusal) -> Reply
         FillRefusal::NoSuchRow => nothing(7),
         FillRefusal::RowInUse => nothing(8),
         FillRefusal::Unfit => nothing(9),
+        FillRefusal::Doubled => nothing(11),
     }
 }
 

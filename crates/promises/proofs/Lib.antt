@@ -5,6 +5,8 @@ pub mod Cases
 pub mod Accepted
 pub mod Potential
 pub mod Finding
+pub mod Doubles
+pub mod Single
 pub mod Halves
 pub mod IllegalCommands
 pub mod LegalCommands

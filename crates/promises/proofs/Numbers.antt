@@ -26,6 +26,7 @@ use Rattle.runs.specs.declared.End.{End}
 use Rattle.runs.specs.declared.End.the-variants.{Off, Held, Empty, Raised, Cut}
 use Rattle.runs.specs.Running as running
 use Rattle.runs.specs.Call as runs
+use Rattle.doubles.specs.Doubles.{doubled}
 use Rattle.fills.specs.declared.FillEnd.{FillEnd}
 use Rattle.fills.specs.declared.FillEnd.the-variants.{Filled, Cut as Fill·Cut}
 use Rattle.fills.specs.declared.FillAnswer.{FillAnswer}
@@ -107,7 +108,9 @@ module _ (m : List ℕ) where
       (λ n e. rw (rows-are m n (says m .accepted n e .size))
       (through number (leb n row) _ _
       ∙ ap (pick (leb n row) 7)
-      (through number (image.isUsed m row) _ _ ∙ ap (pick (image.isUsed m row) 8) (through number (not (fills.fit words)) _ _))))
+      (through number (image.isUsed m row) _ _
+      ∙ ap (pick (image.isUsed m row) 8)
+      (through number (not (fills.fit words)) _ _ ∙ ap (pick (not (fills.fit words)) 9) (through number (doubled m n words) _ _)))))
 
   pub translate-number : (t : Transaction) → translateNumber (transactions.translate m t) ≡ first (ofImage m ++ ofTransaction t)
   unfolding transactions.translate

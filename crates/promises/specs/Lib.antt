@@ -1,6 +1,7 @@
 pub mod Places
 pub mod Bench
 pub mod Cuts
+pub mod Doubles
 pub mod Sums
 pub mod Tells
 pub mod Found

@@ -18,6 +18,7 @@ use Rattle.runs.specs.declared.End.the-variants.{Off, Held, Empty, Raised, Cut}
 use Rattle.runs.specs.declared.RunAnswer.{RunAnswer}
 use Rattle.runs.specs.declared.RunAnswer.the-variants.{Refused as NotRun, Done as DidRun}
 use Rattle.runs.specs.Call as runs
+use Rattle.doubles.specs.Doubles.{doubled}
 use Rattle.fills.specs.declared.FillEnd.{FillEnd}
 use Rattle.fills.specs.declared.FillEnd.the-variants.{Filled, Cut as Fill·Cut}
 use Rattle.fills.specs.declared.FillAnswer.{FillAnswer}
@@ -106,6 +107,7 @@ ofFill m row words =
     record { number = 7; applies = leb (image.rowsIn m) row }
     ∷ record { number = 8; applies = image.isUsed m row }
     ∷ record { number = 9; applies = not (fills.fit words) }
+    ∷ record { number = 11; applies = doubled m (image.rowsIn m) words }
     ∷ []
 
 abbrev pub ofTransaction : Transaction → List Rule

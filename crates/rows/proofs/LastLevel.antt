@@ -16,3 +16,6 @@ module _ (row : Row) where
   pub last-is-used : isLast row ≡ true → isEmpty row ≡ false
   unfolding part
   last-is-used l = ⊎-elim (λ e. clash l (ap (λ (w : ℕ). eqb (part 3 3 w) 1) (eqb-true (row .w0) 0 e))) (λ e. e) (decided (isEmpty row))
+
+  pub empty-not-last : isEmpty row ≡ true → isLast row ≡ false
+  empty-not-last e = ⊎-elim (λ l. clash e (last-is-used l)) (λ f. f) (decided (isLast row))

@@ -5,5 +5,6 @@ pub mod Masks
 pub mod TwoWords
 pub mod Bytes
 pub mod Search
+pub mod Spans
 pub mod Stores
 pub mod Outcomes

@@ -1,9 +1,10 @@
-// Words of 64 bits: powers of two, parts, and words in bytes; and what a search answers.
+// Words of 64 bits: powers of two, parts, spans, and words in bytes; and what a search answers.
 ghost use mathlib.Core.Path.{_≡_};
 ghost use mathlib.Core.List.{[], _∷_};
 ghost use Prim.Native.Nat.{_+_, _-_, _^_, _≤_, _<_};
 ghost use lib.ListN.{length};
 ghost use Rattle.words.specs.Parts.{part, put};
+ghost use Rattle.words.specs.Spans.{overlap};
 ghost use Rattle.words.specs.Bytes.{littleEndian, wordAt};
 
 // What a search finds.
@@ -35,6 +36,17 @@ pub fn put(w: u64, h: u64, l: u64, v: u64) -> u64
 {
     let top = power(h + 1);
     w / top * top + (v % power(h + 1 - l) * power(l) + w % power(l))
+}
+
+// Whether the n numbers from a on and the k from b on share one, by the distance of a and b: an end may be 2^64.
+pub fn overlap(a: u64, n: u64, b: u64, k: u64) -> bool
+    requires { ⌜ (0 < n) × (0 < k) ⌝ }
+    ensures { λ r. ⌜ r ≡ overlap a n b k ⌝ }
+{
+    if a < b {
+        return b - a < n;
+    }
+    a - b < k
 }
 
 // A byte as a word.

@@ -9,7 +9,7 @@ use borrow.Author.Tests.{not-true, not-false}
 use Rattle.image.specs.declared.Checked.the-variants.{Accepted}
 use Rattle.image.specs.Image.{check}
 use Rattle.words.proofs.Outcomes.{gives}
-use Rattle.fills.proofs.Cases.{used, unused, inside, fill-image, fill-no-row, fill-in-use, fill-unfit, fill-done, meets-done}
+use Rattle.fills.proofs.Cases.{used, unused, inside, whole, fill-image, fill-no-row, fill-in-use, fill-unfit, fill-doubled, fill-done, meets-done}
 use borrow.Author.Needs.{needs}
 use Rattle.fills.proofs.fill.Statement.{statement}
 use Rattle.fills.proofs.fill.Tie as tie
@@ -48,18 +48,29 @@ returns-3 c =
     (fill-unfit _ _ _ _ _ (accepted (c .before .before .before .before .before .before)) (c .before .before .before .before .if1 .left)
     (unused _ _ (c .before .before .if2 .left)) (sym (c .before .is-fit .ensures) ∙ not-true _ (c .if3 .taken)))
 
-steps-requires : tie.Need-steps-requires
-steps-requires c κs = room (c .before .before .before .before .before)
+doubled-requires : tie.Need-doubled-requires
+doubled-requires c κs = whole _ _ (accepted (c .before .before .before .before .before .before .before))
 
 returns-4 : tie.Need-returns-4
-returns-4 c = gives (fill-image _ _ _ _ _ (sym (c .before .before .before .check .ensures) ∙ c .before .why .given .1))
+returns-4 c =
+    let test = c .before .before .before in
+    gives
+    (fill-doubled _ _ _ _ _ (accepted (test .before .before .before .before .before .before)) (test .before .before .before .before .if1 .left)
+    (unused _ _ (test .before .before .if2 .left)) (sym (test .before .is-fit .ensures) ∙ not-false _ (test .if3 .left)) (sym (c .before .doubled .ensures) ∙ c .if4 .taken))
+
+steps-requires : tie.Need-steps-requires
+steps-requires c κs = room (c .before .before .before .before .before .before .before .before)
 
 returns-5 : tie.Need-returns-5
-returns-5 c =
+returns-5 c = gives (fill-image _ _ _ _ _ (sym (c .before .before .before .check .ensures) ∙ c .before .why .given .1))
+
+returns-6 : tie.Need-returns-6
+returns-6 c =
+    let test = c .before .before .before .before .before .before .before in
     meets-done (c .before .before .steps .ensures)
-    (fill-done _ _ _ _ _ (accepted (c .before .before .before .before .before .before .before .before .before .before)) (c .before .before .before .before .before .before .before .before .if1 .left)
-    (unused _ _ (c .before .before .before .before .before .before .if2 .left))
-    (sym (c .before .before .before .before .before .is-fit .ensures) ∙ not-false _ (c .before .before .before .before .if3 .left)))
+    (fill-done _ _ _ _ _ (accepted (test .before .before .before .before .before .before)) (test .before .before .before .before .if1 .left)
+    (unused _ _ (test .before .before .if2 .left)) (sym (test .before .is-fit .ensures) ∙ not-false _ (test .if3 .left))
+    (sym (c .before .before .before .before .before .doubled .ensures) ∙ c .before .before .before .before .if4 .left))
 
 pub fill-spec : {M : Type 1} → statement M
 fill-spec =
@@ -79,8 +90,11 @@ fill-spec =
     (λ c κs. search needs)
     (λ c. search needs)
     returns-3
-    steps-requires
+    doubled-requires
     (λ c. search needs)
     returns-4
+    steps-requires
     (λ c. search needs)
-    returns-5)
+    returns-5
+    (λ c. search needs)
+    returns-6)

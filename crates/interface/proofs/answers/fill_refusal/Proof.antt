@@ -16,6 +16,9 @@ returns-3 c = rw (c .before .enum-told2 .given .1, c .nothing2 .ensures)
 returns-4 : tie.Need-returns-4
 returns-4 c = rw (c .before .enum-told3 .given .1, c .nothing3 .ensures)
 
+returns-5 : tie.Need-returns-5
+returns-5 c = rw (c .before .enum-told4 .given .1, c .nothing4 .ensures)
+
 pub fill-refusal-spec : {M : Type 1} → statement M
 fill-refusal-spec =
     tie.close
@@ -28,7 +31,10 @@ fill-refusal-spec =
     (λ c κs. search needs)
     (λ c. search needs)
     (λ c κs. search needs)
+    (λ c. search needs)
+    (λ c κs. search needs)
     returns
     returns-2
     returns-3
-    returns-4)
+    returns-4
+    returns-5)

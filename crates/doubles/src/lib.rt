@@ -1,0 +1,85 @@
+// Whether two rows could answer the same lookup, so that a fill can refuse a second one.
+use rows::Row;
+use rows::kinds;
+ghost use mathlib.Core.Path.{_≡_};
+ghost use Prim.Native.Nat.{_+_, _*_, _≤_};
+ghost use lib.ListN.{length};
+ghost use Rattle.doubles.specs.Doubles.{sameContext, sharesAddress, sharesStage, sharesAsid, shares, collides, collidesAt, doubled};
+
+fn same_context(a: Row, b: Row) -> bool
+    ensures { λ r. ⌜ r ≡ sameContext a b ⌝ }
+{
+    let p = rows::parts_of(a);
+    let q = rows::parts_of(b);
+    (p.stream == q.stream) & (p.substream == q.substream)
+}
+
+fn shares_address(a: Row, b: Row) -> bool
+    ensures { λ r. ⌜ r ≡ sharesAddress a b ⌝ }
+{
+    words::overlap(
+        a.w2,
+        words::power(rows::span_of(a)),
+        b.w2,
+        words::power(rows::span_of(b)),
+    )
+}
+
+fn shares_stage(a: Row, b: Row) -> bool
+    ensures { λ r. ⌜ r ≡ sharesStage a b ⌝ }
+{
+    (rows::parts_of(a).vmid == rows::parts_of(b).vmid) & shares_address(a, b)
+}
+
+fn shares_asid(a: Row, b: Row) -> bool
+    ensures { λ r. ⌜ r ≡ sharesAsid a b ⌝ }
+{
+    let p = rows::parts_of(a);
+    let q = rows::parts_of(b);
+    (p.asid == q.asid) | p.global | q.global
+}
+
+fn shares(a: Row, b: Row) -> bool
+    ensures { λ r. ⌜ r ≡ shares a b ⌝ }
+{
+    let kind = rows::kind_of(a);
+    if kind == kinds::STE {
+        return rows::stream_of(a) == rows::stream_of(b);
+    }
+    if kind == kinds::CD {
+        return same_context(a, b);
+    }
+    if kind == kinds::STAGE2 {
+        return shares_stage(a, b);
+    }
+    shares_stage(a, b) & shares_asid(a, b)
+}
+
+// An empty row is not last-level, so it collides with none.
+fn collides(a: Row, b: Row) -> bool
+    ensures { λ r. ⌜ r ≡ collides a b ⌝ }
+{
+    rows::is_last(a) & rows::is_last(b) & (rows::kind_of(a) == rows::kind_of(b)) & shares(a, b)
+}
+
+fn collides_at(kept: &[u64], words: Row, i: usize) -> bool
+    requires { ⌜ 4 * i + 5 ≤ length (now kept) ⌝ }
+    ensures { λ r. ⌜ r ≡ collidesAt (now (kept .entry)) words i ⌝ }
+{
+    collides(words, image::row_at(kept, i))
+}
+
+// Whether the words collide with one of the first n rows.
+pub fn doubled(kept: &[u64], n: usize, words: Row) -> bool
+    requires { ⌜ 4 * n + 1 ≤ length (now kept) ⌝ }
+    ensures { λ r. ⌜ r ≡ doubled (now (kept .entry)) n words ⌝ }
+{
+    let mut i = 0;
+    while i < n {
+        if collides_at(kept, words, i) {
+            return true;
+        }
+        i += 1;
+    }
+    false
+}
