@@ -6,7 +6,7 @@ mod pending;
 mod reasons;
 mod upper;
 
-use crate::call::{Call, NAMES, NUMBERS};
+use crate::call::{Call, FIRST_EVENT, NAMES, NUMBERS};
 use crate::generate::random::Random;
 use crate::lent::Lent;
 use crate::limits::{words, ROWS, SLOTS};
@@ -78,7 +78,7 @@ pub fn all() -> Vec<Wrong> {
         let fault = Fault::Short(call, number, word, limit);
         add(format!("{what} below {limit}"), fault);
     }
-    for (call, name) in NAMES.iter().enumerate() {
+    for (call, name) in NAMES[..FIRST_EVENT].iter().enumerate() {
         let what = format!("{name}: the last row ill formed");
         add(what, Fault::Unchecked(call));
     }
