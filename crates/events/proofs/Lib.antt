@@ -1,3 +1,4 @@
 pub mod Formed
 pub mod Checks
 pub mod Index
+pub mod Waiting
