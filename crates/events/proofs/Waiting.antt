@@ -109,7 +109,7 @@ module _ (m : List ℕ) (n : ℕ) (a : Accepts m n) where
   pub cut-waiting : (m′ : List ℕ) → word.isFull w ≡ false → indexOf m′ ≡ w → ((j : ℕ) → (j ≡ word.free w → ⊥) → recordAt m′ j ≡ recordAt m j)
       → waiting m′ ≡ waiting m
   unfolding word.free
-  cut-waiting m′ e s same = 
+  cut-waiting m′ e s same =
       waiting-by n m′ (a .size .few) (rw s (a .index))
       ∙ rw s (records-kept n m m′ (word.wr w) (λ j q. same j (λ z. q (rw (a .index .size) at z))) (distance n (word.rd w) (word.wr w)) (word.rd w) refl (has-room n w (a .size .few) (a .index) e))
       ∙ sym before
