@@ -1,0 +1,136 @@
+-- What a write, a read and an acknowledge leave of the records and of the overflow, whatever is answered and wherever the power goes.
+-- Assumes nothing.
+use mathlib.Core.Path.{_≡_, refl, sym, ap, _∙_}
+use mathlib.Core.Bool.{Bool, true, false}
+use mathlib.Core.List.{List, [], _∷_, _++_}
+use mathlib.Core.Logic.{_⊎_, inl, inr, ⊎-elim}
+use Prim.Native.Nat.{ℕ, zero, suc, _+_, _≤_, _<_}
+use native.Mathlib.Omega.{arith}
+use lib.ListN.{length, set, length-set}
+use lib.Seq.{getD-set-same}
+use Rattle.words.specs.Outcomes.{Outcome, with}
+use Rattle.words.specs.Stores.{afterStores}
+use Rattle.words.proofs.Stores.{after-all}
+use Rattle.words.proofs.Truth.{less-or-not}
+use Rattle.events.specs.declared.Record.{Record}
+use Rattle.events.specs.declared.Refusal.{Refusal}
+use Rattle.events.specs.declared.Checked.{Checked}
+use Rattle.events.specs.declared.Checked.the-variants.{Accepted, Refused}
+use Rattle.events.specs.Word.{rdBits, wrBits, overflowBits, overflowAckBits, outstanding, isEmpty, isFull, oldest, free}
+use Rattle.events.specs.Stores.{written, readOut, flipped, acknowledged}
+use Rattle.events.specs.Events.{indexOf, recordOf, recordAt, waiting, check}
+use Rattle.events.proofs.Formed.{Formed}
+use Rattle.events.proofs.Checks.{Accepts, accepts, says, has-index}
+use Rattle.events.proofs.Index.{written-outstanding, read-keeps, read-outstanding, read-formed, flipped-keeps, flipped-outstanding, flipped-formed, acknowledged-keeps, acknowledged-quiet, acknowledged-formed}
+use Rattle.events.proofs.Waiting.{flag-waiting, read-waiting}
+use Rattle.event_calls.specs.declared.WriteEnd.{WriteEnd}
+use Rattle.event_calls.specs.declared.WriteEnd.the-variants.{Stored, Dropped, Cut}
+use Rattle.event_calls.specs.declared.Writing.{Writing}
+use Rattle.event_calls.specs.declared.WriteAnswer.{WriteAnswer}
+use Rattle.event_calls.specs.declared.WriteAnswer.the-variants.{Refused as NotWritten, Done}
+use Rattle.event_calls.specs.Calls.{writeStores, dropStores, report, Stores, write}
+use Rattle.event_calls.specs.Told.{queueByWrite, overflowByWrite, Ends}
+use Rattle.event_calls.proofs.Order.{report-cut, report-all}
+use Rattle.event_calls.proofs.Cases.{drops-quietly, drops-cut, drops-flipped, write-refused, write-drops, write-stores}
+use Rattle.event_calls.proofs.Written.{stored-cut, stored-whole, stored-index, stored-accepted}
+
+-- a recorder whose index word is stored anew
+module _ (m : List ℕ) (n v : ℕ) (a : Accepts m n) where
+  pub stored-word : indexOf (set m 0 v) ≡ v
+  stored-word = getD-set-same m 0 v 0 (has-index m n (a .size))
+
+  pub index-stored : Formed n v → Accepts (set m 0 v) n
+  index-stored f = record { size = record { words = length-set m 0 v ∙ a .size .words; few = a .size .few }; index = rw stored-word f }
+
+-- a write that ended so after so many stores, and left the memory m′
+abbrev ended : WriteEnd → ℕ → List ℕ → Outcome (List ℕ) WriteAnswer
+ended end k m′ = with (Done (record { end = end; stores = k })) m′
+
+-- All that a write under an allowance of k can be. Refused. On a full ring, by the overflow flag: dropped with it, or with the
+-- store that flips it, or cut before that. Else the five stores, of which a cut makes the first k.
+pub data Wrote (m bytes : List ℕ) (k : ℕ) : Type 0 where
+  refuses : (why : Refusal) → write m bytes k ≡ with (NotWritten why) m → Wrote m bytes k
+  drops : (n : ℕ) → Accepts m n → isFull (indexOf m) ≡ true → outstanding (indexOf m) ≡ true → write m bytes k ≡ ended Dropped 0 m → Wrote m bytes k
+  flips : (n : ℕ) → Accepts m n → isFull (indexOf m) ≡ true → outstanding (indexOf m) ≡ false → (k ≡ 0 → ⊥)
+      → write m bytes k ≡ ended Dropped 1 (set m 0 (flipped (indexOf m))) → Wrote m bytes k
+  flips-not : (n : ℕ) → Accepts m n → isFull (indexOf m) ≡ true → outstanding (indexOf m) ≡ false → k ≡ 0 → write m bytes k ≡ ended Cut 0 m → Wrote m bytes k
+  stores : (n : ℕ) → Accepts m n → isFull (indexOf m) ≡ false → 5 ≤ k
+      → write m bytes k ≡ ended Stored 5 (afterStores k (writeStores (free (indexOf m)) (recordOf bytes) (written (indexOf m))) m) → Wrote m bytes k
+  stores-part : (n : ℕ) → Accepts m n → isFull (indexOf m) ≡ false → k < 5
+      → write m bytes k ≡ ended Cut k (afterStores k (writeStores (free (indexOf m)) (recordOf bytes) (written (indexOf m))) m) → Wrote m bytes k
+
+module _ (m bytes : List ℕ) (k : ℕ) where
+  abbrev w : ℕ
+  w = indexOf m
+
+  abbrev r : Record
+  r = recordOf bytes
+
+  -- what the stores of a drop ensure is what a write on a full ring does
+  by-drop : (n : ℕ) → check m ≡ Accepted n → isFull w ≡ true → (m′ : List ℕ) (d : Writing) → Stores (dropStores w) Dropped k m m′ d → write m bytes k ≡ with (Done d) m′
+  by-drop n e full m′ d s = write-drops m bytes k n e full ∙ rw (s .reports, s .leaves)
+
+  pub wrote : Wrote m bytes k
+  wrote = by-check (check m) refl
+    where
+      by-flag : (n : ℕ) → check m ≡ Accepted n → isFull w ≡ true → (t : Bool) → outstanding w ≡ t → Wrote m bytes k
+      by-flag n e full true t = drops n (says m .accepted n e) full t (by-drop n e full m _ (drops-quietly m k t))
+      by-flag n e full false t =
+          ⊎-elim (λ h. let z : k ≡ 0 = omega arith in flips-not n (says m .accepted n e) full t z (by-drop n e full m _ (drops-cut m k t z)))
+          (λ h. let z : (k ≡ 0 → ⊥) = omega arith in flips n (says m .accepted n e) full t z (by-drop n e full (set m 0 (flipped w)) _ (drops-flipped m k t z)))
+          (less-or-not k 1)
+
+      by-room : (n : ℕ) → check m ≡ Accepted n → (t : Bool) → isFull w ≡ t → Wrote m bytes k
+      by-room n e true t = by-flag n e t (outstanding w) refl
+      by-room n e false t =
+          ⊎-elim (λ h. stores-part n (says m .accepted n e) t h (write-stores m bytes k n e t ∙ rw (report-cut (writeStores (free w) r (written w)) Stored k h)))
+          (λ h. stores n (says m .accepted n e) t h (write-stores m bytes k n e t ∙ rw (report-all (writeStores (free w) r (written w)) Stored k h)))
+          (less-or-not k 5)
+
+      by-check : (c : Checked) → check m ≡ c → Wrote m bytes k
+      by-check (Refused why) e = refuses why (write-refused m bytes k why e)
+      by-check (Accepted n) e = by-room n e (isFull w) refl
+
+  -- the records that wait after it are those that its answer tells: the old ones, and the whole new one exactly if it ended Stored
+  pub write-queue : waiting (write m bytes k .memory) ≡ queueByWrite r (write m bytes k .answer) (waiting m)
+  write-queue = by-case wrote
+    where
+      by-case : Wrote m bytes k → waiting (write m bytes k .memory) ≡ queueByWrite r (write m bytes k .answer) (waiting m)
+      by-case (refuses why e) = rw e
+      by-case (drops n a full t e) = rw e
+      by-case (flips n a full t z e) =
+          rw e (flag-waiting m n a (flipped w) (flipped-formed n w (a .size .few) (a .index)) (flipped-keeps w rdBits tt) (flipped-keeps w wrBits tt))
+      by-case (flips-not n a full t z e) = rw e
+      by-case (stores n a room h e) = rw e (stored-whole m n r a room k h)
+      by-case (stores-part n a room h e) = rw e (stored-cut m n r a room k h)
+
+  -- so is the overflow: outstanding after a drop, and else as it was
+  pub write-overflow : outstanding (indexOf (write m bytes k .memory)) ≡ overflowByWrite (write m bytes k .answer) (outstanding w)
+  write-overflow = by-case wrote
+    where
+      by-index : (v : ℕ) → (v ≡ w) ⊎ (v ≡ written w) → outstanding v ≡ outstanding w
+      by-index v (inl e) = ap outstanding e
+      by-index v (inr e) = ap outstanding e ∙ written-outstanding w
+
+      by-case : Wrote m bytes k → outstanding (indexOf (write m bytes k .memory)) ≡ overflowByWrite (write m bytes k .answer) (outstanding w)
+      by-case (refuses why e) = rw e
+      by-case (drops n a full t e) = rw e t
+      by-case (flips n a full t z e) = rw (e, stored-word m n (flipped w) a) (flipped-outstanding w t)
+      by-case (flips-not n a full t z e) = rw e
+      by-case (stores n a room h e) = rw e (by-index _ (stored-index m n r a room k))
+      by-case (stores-part n a room h e) = rw e (by-index _ (stored-index m n r a room k))
+
+  -- an accepted recorder stays accepted
+  pub write-accepted : (n : ℕ) → Accepts m n → Accepts (write m bytes k .memory) n
+  write-accepted n b = by-case wrote
+    where
+      same : (n′ : ℕ) → Accepts m n′ → Accepts (write m bytes k .memory) n′ → Accepts (write m bytes k .memory) n
+      same n′ a′ c = let s : n′ ≡ n = cc (accepts m n b, accepts m n′ a′) in rw (← s) c
+
+      by-case : Wrote m bytes k → Accepts (write m bytes k .memory) n
+      by-case (refuses why e) = rw e b
+      by-case (drops n′ a full t e) = rw e b
+      by-case (flips n′ a full t z e) = same n′ a (rw e (index-stored m n′ (flipped w) a (flipped-formed n′ w (a .size .few) (a .index))))
+      by-case (flips-not n′ a full t z e) = rw e b
+      by-case (stores n′ a room h e) = same n′ a (rw e (stored-accepted m n′ r a room k))
+      by-case (stores-part n′ a room h e) = same n′ a (rw e (stored-accepted m n′ r a room k))
