@@ -2,3 +2,4 @@ pub mod Order
 pub mod Cases
 pub mod Written
 pub mod Laws
+pub mod OneStore
