@@ -3,3 +3,4 @@ pub mod Cases
 pub mod Written
 pub mod Laws
 pub mod OneStore
+pub mod Cuts
