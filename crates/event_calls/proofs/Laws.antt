@@ -9,7 +9,7 @@ use native.Mathlib.Omega.{arith}
 use lib.ListN.{length, set, length-set}
 use lib.Seq.{getD-set-same}
 use Rattle.words.specs.Outcomes.{Outcome, with}
-use Rattle.words.specs.Stores.{afterStores}
+use Rattle.words.specs.Stores.{Store, afterStores}
 use Rattle.words.proofs.Stores.{after-all}
 use Rattle.words.proofs.Truth.{less-or-not}
 use Rattle.events.specs.declared.Record.{Record}
@@ -66,30 +66,47 @@ module _ (m bytes : List ℕ) (k : ℕ) where
   abbrev r : Record
   r = recordOf bytes
 
-  -- what the stores of a drop ensure is what a write on a full ring does
-  by-drop : (n : ℕ) → check m ≡ Accepted n → isFull w ≡ true → (m′ : List ℕ) (d : Writing) → Stores (dropStores w) Dropped k m m′ d → write m bytes k ≡ with (Done d) m′
-  by-drop n e full m′ d s = write-drops m bytes k n e full ∙ rw (s .reports, s .leaves)
+  -- the stores that are due when the ring is not full
+  abbrev due : List Store
+  due = writeStores (free w) r (written w)
+
+  module _ (n : ℕ) (a : Accepts m n) where
+    by-drop : isFull w ≡ true → {m′ : List ℕ} {d : Writing} → Stores (dropStores w) Dropped k m m′ d → write m bytes k ≡ with (Done d) m′
+    by-drop full s = write-drops m bytes k n (accepts m n a) full ∙ rw (s .reports, s .leaves)
+
+    -- full: dropped
+    pub full-told : isFull w ≡ true → outstanding w ≡ true → write m bytes k ≡ ended Dropped 0 m
+    full-told full t = by-drop full (drops-quietly m k t)
+
+    pub full-tells : isFull w ≡ true → outstanding w ≡ false → (k ≡ 0 → ⊥) → write m bytes k ≡ ended Dropped 1 (set m 0 (flipped w))
+    full-tells full t z = by-drop full (drops-flipped m k t z)
+
+    pub full-cut : isFull w ≡ true → outstanding w ≡ false → k ≡ 0 → write m bytes k ≡ ended Cut 0 m
+    full-cut full t z = by-drop full (drops-cut m k t z)
+
+    -- not full: stored
+    pub room-whole : isFull w ≡ false → 5 ≤ k → write m bytes k ≡ ended Stored 5 (afterStores k due m)
+    room-whole room h = write-stores m bytes k n (accepts m n a) room ∙ rw (report-all due Stored k h)
+
+    pub room-part : isFull w ≡ false → k < 5 → write m bytes k ≡ ended Cut k (afterStores k due m)
+    room-part room h = write-stores m bytes k n (accepts m n a) room ∙ rw (report-cut due Stored k h)
 
   pub wrote : Wrote m bytes k
   wrote = by-check (check m) refl
     where
-      by-flag : (n : ℕ) → check m ≡ Accepted n → isFull w ≡ true → (t : Bool) → outstanding w ≡ t → Wrote m bytes k
-      by-flag n e full true t = drops n (says m .accepted n e) full t (by-drop n e full m _ (drops-quietly m k t))
-      by-flag n e full false t =
-          ⊎-elim (λ h. let z : k ≡ 0 = omega arith in flips-not n (says m .accepted n e) full t z (by-drop n e full m _ (drops-cut m k t z)))
-          (λ h. let z : (k ≡ 0 → ⊥) = omega arith in flips n (says m .accepted n e) full t z (by-drop n e full (set m 0 (flipped w)) _ (drops-flipped m k t z)))
-          (less-or-not k 1)
+      by-flag : (n : ℕ) → Accepts m n → isFull w ≡ true → (t : Bool) → outstanding w ≡ t → Wrote m bytes k
+      by-flag n a full true t = drops n a full t (full-told n a full t)
+      by-flag n a full false t =
+          ⊎-elim (λ h. let z : k ≡ 0 = omega arith in flips-not n a full t z (full-cut n a full t z))
+          (λ h. let z : (k ≡ 0 → ⊥) = omega arith in flips n a full t z (full-tells n a full t z)) (less-or-not k 1)
 
-      by-room : (n : ℕ) → check m ≡ Accepted n → (t : Bool) → isFull w ≡ t → Wrote m bytes k
-      by-room n e true t = by-flag n e t (outstanding w) refl
-      by-room n e false t =
-          ⊎-elim (λ h. stores-part n (says m .accepted n e) t h (write-stores m bytes k n e t ∙ rw (report-cut (writeStores (free w) r (written w)) Stored k h)))
-          (λ h. stores n (says m .accepted n e) t h (write-stores m bytes k n e t ∙ rw (report-all (writeStores (free w) r (written w)) Stored k h)))
-          (less-or-not k 5)
+      by-room : (n : ℕ) → Accepts m n → (t : Bool) → isFull w ≡ t → Wrote m bytes k
+      by-room n a true t = by-flag n a t (outstanding w) refl
+      by-room n a false t = ⊎-elim (λ h. stores-part n a t h (room-part n a t h)) (λ h. stores n a t h (room-whole n a t h)) (less-or-not k 5)
 
       by-check : (c : Checked) → check m ≡ c → Wrote m bytes k
       by-check (Refused why) e = refuses why (write-refused m bytes k why e)
-      by-check (Accepted n) e = by-room n e (isFull w) refl
+      by-check (Accepted n) e = by-room n (says m .accepted n e) (isFull w) refl
 
   -- the records that wait after it are those that its answer tells: the old ones, and the whole new one exactly if it ended Stored
   pub write-queue : waiting (write m bytes k .memory) ≡ queueByWrite r (write m bytes k .answer) (waiting m)
@@ -134,3 +151,18 @@ module _ (m bytes : List ℕ) (k : ℕ) where
       by-case (flips-not n′ a full t z e) = rw e b
       by-case (stores n′ a room h e) = same n′ a (rw e (stored-accepted m n′ r a room k))
       by-case (stores-part n′ a room h e) = same n′ a (rw e (stored-accepted m n′ r a room k))
+
+  -- a refusal stores nothing
+  pub write-refused-leaves : (why : Refusal) → write m bytes k .answer ≡ NotWritten why → write m bytes k .memory ≡ m
+  write-refused-leaves why q = by-case wrote
+    where
+      carried : {d : Writing} {m′ : List ℕ} → write m bytes k ≡ with (Done d) m′ → write m bytes k .memory ≡ m
+      carried e = let z : _≡_ {A = ℕ} 0 1 = cc (ap (λ (o : Outcome (List ℕ) WriteAnswer). o .answer) e) in absurd (omega arith)
+
+      by-case : Wrote m bytes k → write m bytes k .memory ≡ m
+      by-case (refuses why′ e) = rw e
+      by-case (drops n a full t e) = carried e
+      by-case (flips n a full t z e) = carried e
+      by-case (flips-not n a full t z e) = carried e
+      by-case (stores n a room h e) = carried e
+      by-case (stores-part n a room h e) = carried e

@@ -4,3 +4,4 @@ pub mod Written
 pub mod Laws
 pub mod OneStore
 pub mod Cuts
+pub mod Recorder
