@@ -3,13 +3,12 @@
 use mathlib.Core.Path.{_≡_, refl, ap, _∙_}
 use mathlib.Core.Bool.{true, false}
 use mathlib.Core.List.{List, [], _∷_}
-use Prim.Native.Nat.{ℕ, zero, suc, _+_, _*_, _≤_, _<_}
+use Prim.Native.Nat.{ℕ, _+_, _*_, _≤_, _<_}
 use native.Mathlib.Omega.{arith}
 use lib.ListN.{length, set}
 use Rattle.words.specs.Outcomes.{Outcome, with, Gives}
 use Rattle.words.specs.Stores.{Store, afterStores}
-use Rattle.words.proofs.Stores.{after-all, after-none}
-use Rattle.events.specs.declared.Record.{Record}
+use Rattle.words.proofs.Stores.{after-all}
 use Rattle.events.specs.declared.Refusal.{Refusal}
 use Rattle.events.specs.declared.Checked.the-variants.{Accepted, Refused}
 use Rattle.events.specs.Word.{outstanding, isEmpty, isFull, oldest, free}

@@ -19,7 +19,7 @@ use Rattle.events.specs.Word.{outstanding, isFull}
 use Rattle.events.specs.Events.{indexOf, recordOf, check}
 use Rattle.events.proofs.Checks.{Accepts, accepts, says}
 use Rattle.event_calls.specs.declared.WriteEnd.{WriteEnd}
-use Rattle.event_calls.specs.declared.WriteEnd.the-variants.{Stored, Dropped, Cut}
+use Rattle.event_calls.specs.declared.WriteEnd.the-variants.{Cut}
 use Rattle.event_calls.specs.declared.WriteAnswer.{WriteAnswer}
 use Rattle.event_calls.specs.declared.WriteAnswer.the-variants.{Refused as NotWritten, Done}
 use Rattle.event_calls.specs.Calls.{dropStores, dueStores, endOf, write}

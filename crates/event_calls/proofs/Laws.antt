@@ -1,35 +1,34 @@
 -- What a write, a read and an acknowledge leave of the records and of the overflow, whatever is answered and wherever the power goes.
 -- Assumes nothing.
-use mathlib.Core.Path.{_≡_, refl, sym, ap, _∙_}
+use mathlib.Core.Path.{_≡_, refl, ap, _∙_}
 use mathlib.Core.Bool.{Bool, true, false}
-use mathlib.Core.List.{List, [], _∷_, _++_}
+use mathlib.Core.List.{List}
 use mathlib.Core.Logic.{_⊎_, inl, inr, ⊎-elim}
-use Prim.Native.Nat.{ℕ, zero, suc, _+_, _≤_, _<_}
+use Prim.Native.Nat.{ℕ, _≤_, _<_}
 use native.Mathlib.Omega.{arith}
-use lib.ListN.{length, set, length-set}
+use lib.ListN.{set, length-set}
 use lib.Seq.{getD-set-same}
 use Rattle.words.specs.Outcomes.{Outcome, with}
 use Rattle.words.specs.Stores.{Store, afterStores}
-use Rattle.words.proofs.Stores.{after-all}
 use Rattle.words.proofs.Truth.{less-or-not}
 use Rattle.events.specs.declared.Record.{Record}
 use Rattle.events.specs.declared.Refusal.{Refusal}
 use Rattle.events.specs.declared.Checked.{Checked}
 use Rattle.events.specs.declared.Checked.the-variants.{Accepted, Refused}
-use Rattle.events.specs.Word.{rdBits, wrBits, overflowBits, overflowAckBits, outstanding, isEmpty, isFull, oldest, free}
-use Rattle.events.specs.Stores.{written, readOut, flipped, acknowledged}
-use Rattle.events.specs.Events.{indexOf, recordOf, recordAt, waiting, check}
+use Rattle.events.specs.Word.{rdBits, wrBits, outstanding, isFull, free}
+use Rattle.events.specs.Stores.{written, flipped}
+use Rattle.events.specs.Events.{indexOf, recordOf, waiting, check}
 use Rattle.events.proofs.Formed.{Formed}
 use Rattle.events.proofs.Checks.{Accepts, accepts, says, has-index}
-use Rattle.events.proofs.Index.{written-outstanding, read-keeps, read-outstanding, read-formed, flipped-keeps, flipped-outstanding, flipped-formed, acknowledged-keeps, acknowledged-quiet, acknowledged-formed}
-use Rattle.events.proofs.Waiting.{flag-waiting, read-waiting}
+use Rattle.events.proofs.Index.{written-outstanding, flipped-keeps, flipped-outstanding, flipped-formed}
+use Rattle.events.proofs.Waiting.{flag-waiting}
 use Rattle.event_calls.specs.declared.WriteEnd.{WriteEnd}
 use Rattle.event_calls.specs.declared.WriteEnd.the-variants.{Stored, Dropped, Cut}
 use Rattle.event_calls.specs.declared.Writing.{Writing}
 use Rattle.event_calls.specs.declared.WriteAnswer.{WriteAnswer}
 use Rattle.event_calls.specs.declared.WriteAnswer.the-variants.{Refused as NotWritten, Done}
-use Rattle.event_calls.specs.Calls.{writeStores, dropStores, report, Stores, write}
-use Rattle.event_calls.specs.Told.{queueByWrite, overflowByWrite, Ends}
+use Rattle.event_calls.specs.Calls.{writeStores, dropStores, Stores, write}
+use Rattle.event_calls.specs.Told.{queueByWrite, overflowByWrite}
 use Rattle.event_calls.proofs.Order.{report-cut, report-all}
 use Rattle.event_calls.proofs.Cases.{drops-quietly, drops-cut, drops-flipped, write-refused, write-drops, write-stores}
 use Rattle.event_calls.proofs.Written.{stored-cut, stored-whole, stored-index, stored-accepted}

@@ -1,17 +1,15 @@
 -- Document 02, T-01, sentence by sentence: the recorder is a queue of whole records, and tells an overflow once.
 -- Assumes nothing.
-use mathlib.Core.Path.{_≡_, refl, sym, ap, _∙_}
+use mathlib.Core.Path.{_≡_, refl, ap, _∙_}
 use mathlib.Core.Bool.{Bool, true, false}
 use mathlib.Core.List.{List, [], _∷_, _++_}
 use mathlib.Core.Logic.{_⊎_, inl, inr}
-use Prim.Native.Nat.{ℕ, suc, _≤_, _<_}
+use Prim.Native.Nat.{ℕ, _≤_, _<_}
 use native.Mathlib.Omega.{arith}
 use lib.ListN.{length}
 use Rattle.words.specs.Outcomes.{Outcome}
-use Rattle.words.proofs.Truth.{clash, decided}
 use Rattle.indexes.specs.Indexes.{slots}
 use Rattle.events.specs.declared.Record.{Record}
-use Rattle.events.specs.declared.Refusal.{Refusal}
 use Rattle.events.specs.Word.{outstanding, isEmpty, isFull, oldest, free}
 use Rattle.events.specs.Stores.{readOut}
 use Rattle.events.specs.Events.{indexOf, recordOf, waiting}
@@ -24,7 +22,7 @@ use Rattle.event_calls.specs.declared.WriteAnswer.the-variants.{Refused 
 use Rattle.event_calls.specs.declared.ReadRefusal.the-variants.{Empty}
 use Rattle.event_calls.specs.declared.ReadAnswer.{ReadAnswer}
 use Rattle.event_calls.specs.declared.ReadAnswer.the-variants.{Refused as NotRead, Oldest}
-use Rattle.event_calls.specs.Calls.{writeStores, write, read, acknowledge}
+use Rattle.event_calls.specs.Calls.{write, read, acknowledge}
 use Rattle.event_calls.specs.Told.{byEnd, queueByWrite, overflowByEnd, overflowByWrite, Call, Write, Read, Acknowledge, leaves, queueBy, overflowBy, leavesAll, queueAll, overflowAll, Ends}
 use Rattle.event_calls.proofs.Cases.{read-empty, read-stores}
 use Rattle.event_calls.proofs.Laws.{full-told, full-tells, full-cut, room-whole, room-part, write-queue, write-overflow, write-accepted, stored-word}

@@ -1,7 +1,7 @@
 -- Document 02, T-01: writing a record, reading the oldest, acknowledging an overflow; refusals 17 and 18.
 -- Assumes nothing.
 use mathlib.Core.Path.{_≡_}
-use mathlib.Core.Bool.{Bool, not}
+use mathlib.Core.Bool.{not}
 use mathlib.Core.List.{List, [], _∷_}
 use Prim.Native.Nat.{ℕ, _+_, _*_}
 use lib.Dec.{ltb}

@@ -3,15 +3,14 @@
 use mathlib.Core.Path.{_≡_, refl, sym, ap, _∙_}
 use mathlib.Core.Bool.{Bool, true, false}
 use mathlib.Core.List.{List}
-use Prim.Native.Nat.{ℕ, _+_, _*_, _^_, _≤_, _<_}
+use Prim.Native.Nat.{ℕ, _+_, _*_, _≤_, _<_}
 use native.Mathlib.Omega.{arith}
 use lib.ListN.{length}
-use lib.Pow.{pow-pos, pow-lt}
-use borrow.Author.Tests.{eq-eqb, ne-eqb, eqb-true, eqb-false}
+use lib.Pow.{pow-lt}
+use borrow.Author.Tests.{eq-eqb, ne-eqb, eqb-true}
 use Rattle.words.specs.declared.Found.{Found}
 use Rattle.words.specs.declared.Found.the-variants.{At, Nothing}
-use Rattle.words.proofs.Search.{Lowest, from-zero, found, none, is-found, is-none}
-use Rattle.words.proofs.Truth.{clash}
+use Rattle.words.proofs.Search.{from-zero, found, is-found}
 use Rattle.indexes.specs.Indexes.{slots}
 use Rattle.events.specs.declared.Refusal.the-variants.{BadLength, BadIndex}
 use Rattle.events.specs.declared.Checked.{Checked}

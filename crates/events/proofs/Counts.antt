@@ -1,20 +1,18 @@
 -- How many records wait, and what full and empty say of them.
 -- Assumes nothing.
 use mathlib.Core.Path.{_≡_, refl, sym, ap, ap₂, _∙_}
-use mathlib.Core.Bool.{Bool, true, false}
+use mathlib.Core.Bool.{true}
 use mathlib.Core.List.{List, []}
 use Prim.Native.Nat.{ℕ, zero, suc, _≤_}
-use native.Mathlib.Omega.{arith}
 use lib.ListN.{length}
 use borrow.Author.Tests.{eq-eqb, eqb-true}
 use Rattle.indexes.specs.Indexes as indexes
 use Rattle.indexes.proofs.Laws as indexed
-use Rattle.events.specs.declared.Record.{Record}
-use Rattle.events.specs.Word.{rd, wr, wrBits, log2size, log2sizeBits, isEmpty, isFull, oldest, free, distance}
+use Rattle.events.specs.Word.{rd, wr, wrBits, log2sizeBits, isEmpty, isFull, oldest, free, distance}
 use Rattle.events.specs.Stores.{readOut}
 use Rattle.events.specs.Events.{indexOf, recordsFrom, waiting}
 use Rattle.events.proofs.Checks.{Accepts}
-use Rattle.events.proofs.Index.{has-room, is-held, some-waits, read-keeps}
+use Rattle.events.proofs.Index.{is-held, read-keeps}
 use Rattle.events.proofs.Waiting.{waiting-by}
 
 records-count : (n : ℕ) (m : List ℕ) (k i : ℕ) → length (recordsFrom n m k i) ≡ k

@@ -1,11 +1,11 @@
 -- The records that wait: what a store leaves of them, and how they grow at the end and shrink at the front.
 -- Assumes nothing.
 use mathlib.Core.Path.{_≡_, refl, sym, ap, ap₂, _∙_}
-use mathlib.Core.Bool.{true, false}
+use mathlib.Core.Bool.{false}
 use mathlib.Core.List.{List, [], _∷_, _++_}
 use Prim.Native.Nat.{ℕ, zero, suc, _+_, _*_, _≤_, _<_}
 use native.Mathlib.Omega.{arith}
-use lib.ListN.{length, getD, set, length-set}
+use lib.ListN.{getD, set}
 use lib.Seq.{getD-set-same, getD-set-other}
 use Rattle.indexes.specs.Indexes.{slots, turn, distance, slot, next}
 use Rattle.indexes.proofs.Laws.{slot-apart, distance-next, distance-more, none-waits, next-lt}
