@@ -1,7 +1,7 @@
 // Document 02, T-01: the recorder's index word.
 use crate::places;
 ghost use mathlib.Core.Path.{_≡_};
-ghost use Prim.Native.Nat.{_≤_, _<_, _^_};
+ghost use Prim.Native.Nat.{_≤_, _<_};
 ghost use Rattle.events.specs.Word.{rd, wr, overflow, overflowAck, log2size, outstanding, wellFormed, isEmpty, isFull, oldest, free};
 
 pub fn rd_of(w: u64) -> u64
