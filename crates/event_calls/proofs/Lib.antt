@@ -5,3 +5,4 @@ pub mod Laws
 pub mod OneStore
 pub mod Cuts
 pub mod Recorder
+pub mod Examples
