@@ -1,17 +1,15 @@
 -- Document 02, T-01: each call of the recorder gives the first number of its row that applies, and 0 where none does.
 -- Assumes nothing.
-use mathlib.Core.Path.{_≡_, refl, ap, _∙_}
+use mathlib.Core.Path.{_≡_, refl}
 use mathlib.Core.Bool.{Bool, true, false, not}
 use mathlib.Core.List.{List, [], _++_}
 use Prim.Native.Nat.{ℕ}
 use lib.ListN.{getD}
-use Rattle.words.specs.Outcomes.{Outcome}
 use Rattle.words.specs.declared.Found.{Found}
 use Rattle.words.specs.declared.Found.the-variants.{At, Nothing}
 use Rattle.events.specs.declared.Refusal.{Refusal}
 use Rattle.events.specs.declared.Refusal.the-variants.{BadLength, BadIndex}
 use Rattle.events.specs.declared.Checked.{Checked}
-use Rattle.events.specs.declared.Checked.the-variants.{Accepted}
 use Rattle.events.specs.Word.{wellFormed, outstanding, isEmpty}
 use Rattle.events.specs.Events as events
 use Rattle.event_calls.specs.declared.WriteEnd.{WriteEnd}
