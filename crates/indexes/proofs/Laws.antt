@@ -99,6 +99,16 @@ module _ (n : ℕ) where
       ∙ ap (λ (k : ℕ). k % s) (let q : i % s + s - i % s ≡ 0 + s = omega arith in q) ∙ add-mod-right 0 s ∙ mod-eq-of-lt (pow-pos n) in
       omega arith
 
+  -- so where the queue is not full, WR's slot is none of those that wait
+  pub waiting-apart : (rd wr i : ℕ) → distance n rd wr < slots n → i < distance n rd wr → slot n ((i + rd) % turn n) ≡ slot n wr → ⊥
+  waiting-apart rd wr i room h =
+      let t = turn n in
+      let d = distance n rd wr in
+      let rest : distance n ((i + rd) % t) wr ≡ d - i =
+      is-distance (d - i) ((i + rd) % t) wr (omega (arith, distance-lt rd wr))
+      (add-mod-mod (d - i) (i + rd) t ∙ ap (λ (k : ℕ). k % t) (let s : d - i + (i + rd) ≡ d + rd = omega arith in s) ∙ arrives rd wr) in
+      slot-apart ((i + rd) % t) wr (rw rest (omega arith)) (rw rest (omega arith))
+
   -- behind by a full queue it has the same one
   pub slot-full : (i wr : ℕ) → distance n i wr ≡ slots n → slot n i ≡ slot n wr
   unfolding slot

@@ -7,6 +7,7 @@ use Prim.Native.Nat.{ℕ}
 use lib.ListN.{getD}
 use Rattle.words.specs.declared.Found.{Found}
 use Rattle.words.specs.declared.Found.the-variants.{At, Nothing}
+use Rattle.words.proofs.Truth.{through}
 use Rattle.events.specs.declared.Refusal.{Refusal}
 use Rattle.events.specs.declared.Refusal.the-variants.{BadLength, BadIndex}
 use Rattle.events.specs.declared.Checked.{Checked}
@@ -17,7 +18,7 @@ use Rattle.event_calls.specs.declared.WriteEnd.the-variants.{Stored, Dropped, C
 use Rattle.event_calls.specs.Calls as calls
 use Rattle.promises.specs.Numbers.{Rule, first}
 use Rattle.promises.specs.Recorder.{writeNumber, readNumber, acknowledgeNumber, ofRecorder, ofRead, ofAcknowledge, writeEnds}
-use Rattle.promises.proofs.Numbers.{through, ofAnswer}
+use Rattle.promises.proofs.Numbers.{ofAnswer}
 
 -- 15 and 16, and then the numbers of the call's own
 module _ {A : Type 0} (m : List ℕ) (number : A → ℕ) (refuses : Refusal → A) (goes-on : ℕ → A) (rules : List Rule)
