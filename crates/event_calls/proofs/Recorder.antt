@@ -3,11 +3,12 @@
 use mathlib.Core.Path.{_≡_, refl, ap, _∙_}
 use mathlib.Core.Bool.{Bool, true, false}
 use mathlib.Core.List.{List, [], _∷_, _++_}
-use mathlib.Core.Logic.{_⊎_, inl, inr}
+use mathlib.Core.Logic.{_⊎_, inl, inr, ⊎-elim}
 use Prim.Native.Nat.{ℕ, _≤_, _<_}
 use native.Mathlib.Omega.{arith}
 use lib.ListN.{length}
 use Rattle.words.specs.Outcomes.{Outcome}
+use Rattle.words.proofs.Truth.{decided}
 use Rattle.indexes.specs.Indexes.{slots}
 use Rattle.events.specs.declared.Record.{Record}
 use Rattle.events.specs.Word.{outstanding, isEmpty, isFull, oldest, free}
@@ -45,10 +46,6 @@ one-of r (Done writing) q = by-end (writing .end) refl
     by-end Stored e = inr (rw e)
     by-end Dropped e = inl (rw e)
     by-end Cut e = inl (rw e)
-
-not-true-false : (b : Bool) → (b ≡ true → ⊥) → b ≡ false
-not-true-false true h = absurd (h refl)
-not-true-false false h = refl
 
 abbrev told : Outcome (List ℕ) WriteAnswer → WriteAnswer
 told o = o .answer
@@ -88,7 +85,7 @@ module _ (m bytes : List ℕ) (k : ℕ) where
   -- how it ends, by how many records wait: with a slot free it is stored, or cut after as many stores as it may make
   module _ (n : ℕ) (a : Accepts m n) where
     has-room : length (waiting m) < slots n → isFull (indexOf m) ≡ false
-    has-room h = not-true-false (isFull (indexOf m)) (λ t. omega (arith, full-count m n a t))
+    has-room h = ⊎-elim (λ t. absurd (omega (arith, full-count m n a t))) (λ t. t) (decided (isFull (indexOf m)))
 
     pub ends-stored : length (waiting m) < slots n → 5 ≤ k → answer ≡ Done (record { end = Stored; stores = 5 })
     ends-stored room h = ap told (room-whole m bytes k n a (has-room room) h)

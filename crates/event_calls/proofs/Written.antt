@@ -98,12 +98,12 @@ module _ (m : List ℕ) (n : ℕ) (r : Record) (a : Accepts m n) (room : isFull 
 
   -- with fewer than five stores the records that wait are the old ones; with five or more, those and the whole new one
   pub stored-cut : (k : ℕ) → k < 5 → waiting (stored k) ≡ waiting m
-  stored-cut k h = cut-waiting m n a (stored k) room (index-waits (free w) r (written w) m k h) (others-kept (free w) r (written w) m k)
+  stored-cut k h = cut-waiting m n a (stored k) room (others-kept (free w) r (written w) m k) (index-waits (free w) r (written w) m k h)
 
   pub stored-whole : (k : ℕ) → 5 ≤ k → waiting (stored k) ≡ waiting m ++ (r ∷ [])
   stored-whole k h =
       rw (whole k h)
-      (write-waiting m n a (stored 5) room (index-last (free w) r (written w) m (omega (arith, has-free))) (others-kept (free w) r (written w) m 5)
+      (write-waiting m n a (stored 5) room (others-kept (free w) r (written w) m 5) (index-last (free w) r (written w) m (omega (arith, has-free)))
       ∙ ap (λ (x : Record). waiting m ++ (x ∷ [])) (holds-record (free w) r (written w) m has-free))
 
   -- the index word is the old one, or the one with WR moved on

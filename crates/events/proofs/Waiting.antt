@@ -65,66 +65,72 @@ unfolding waiting
 waiting-by n m small f =
     ap₂ (λ (k d : ℕ). recordsFrom k m d (word.rd (indexOf m))) (f .size) (distance-held n (indexOf m) small f)
 
+-- an accepted recorder: its index word, its indexes, and how many records wait
 module _ (m : List ℕ) (n : ℕ) (a : Accepts m n) where
-  -- the index word, and the records before a memory that differs in it or in the slot at WR
   abbrev w : ℕ
   w = indexOf m
 
-  before : waiting m ≡ recordsFrom n m (distance n (word.rd w) (word.wr w)) (word.rd w)
-  before = waiting-by n m (a .size .few) (a .index)
+  abbrev rd : ℕ
+  rd = word.rd w
 
-  -- a store to the index word that moves no index
-  pub flag-waiting : (v : ℕ) → Formed n v → word.rd v ≡ word.rd w → word.wr v ≡ word.wr w → waiting (set m 0 v) ≡ waiting m
-  flag-waiting v f p q =
-      let s : indexOf (set m 0 v) ≡ v = getD-set-same m 0 v 0 (has-index m n (a .size)) in
-      waiting-by n (set m 0 v) (a .size .few) (rw s f)
-      ∙ rw (s, p, q) (records-same n m (set m 0 v) (λ j. record-kept m 0 v j (λ i. omega (arith, i .from))) (distance n (word.rd w) (word.wr w)) (word.rd w))
-      ∙ sym before
+  abbrev wr : ℕ
+  wr = word.wr w
 
-  -- the oldest read: it is the first of them, and the rest stay
+  abbrev count : ℕ
+  count = distance n rd wr
+
+  small : n ≤ maxLog2
+  small = a .size .few
+
+  before : waiting m ≡ recordsFrom n m count rd
+  before = waiting-by n m small (a .index)
+
+  -- a store to the index word leaves every slot
+  module _ (v : ℕ) where
+    stored-index : indexOf (set m 0 v) ≡ v
+    stored-index = getD-set-same m 0 v 0 (has-index m n (a .size))
+
+    stored-slots : (k i : ℕ) → recordsFrom n (set m 0 v) k i ≡ recordsFrom n m k i
+    stored-slots k i = records-same n m (set m 0 v) (λ j. record-kept m 0 v j (λ q. omega (arith, q .from))) k i
+
+    -- and all the records, if it moves no index
+    pub flag-waiting : Formed n v → word.rd v ≡ rd → word.wr v ≡ wr → waiting (set m 0 v) ≡ waiting m
+    flag-waiting f p q = waiting-by n (set m 0 v) small (rw stored-index f) ∙ rw (stored-index, p, q) (stored-slots count rd) ∙ sym before
+
+  -- the oldest read: it was the first of them, and the rest stay
   pub read-waiting : word.isEmpty w ≡ false → waiting m ≡ recordAt m (word.oldest w) ∷ waiting (set m 0 (readOut w))
   unfolding word.oldest recordsFrom
-  read-waiting e = by-distance (distance n (word.rd w) (word.wr w)) refl
+  read-waiting e = by-count count refl
     where
-      m′ : List ℕ
-      m′ = set m 0 (readOut w)
-
-      s : indexOf m′ ≡ readOut w
-      s = getD-set-same m 0 (readOut w) 0 (has-index m n (a .size))
-
-      rest : (k : ℕ) → distance n (word.rd w) (word.wr w) ≡ suc k → waiting m′ ≡ recordsFrom n m k (next n (word.rd w))
+      rest : (k : ℕ) → count ≡ suc k → waiting (set m 0 (readOut w)) ≡ recordsFrom n m k (next n rd)
       rest k q =
-          waiting-by n m′ (a .size .few) (rw s (read-formed n w (a .size .few) (a .index) e))
-          ∙ rw (s, read-sets n w (a .size .few) (a .index), read-keeps w word.wrBits tt, distance-next n (word.rd w) (word.wr w) k q)
-          (records-same n m m′ (λ j. record-kept m 0 (readOut w) j (λ i. omega (arith, i .from))) k (next n (word.rd w)))
+          waiting-by n (set m 0 (readOut w)) small (rw (stored-index (readOut w)) (read-formed n w small (a .index) e))
+          ∙ rw (stored-index (readOut w), read-sets n w small (a .index), read-keeps w word.wrBits tt, distance-next n rd wr k q)
+          (stored-slots (readOut w) k (next n rd))
 
-      by-distance : (k : ℕ) → distance n (word.rd w) (word.wr w) ≡ k → waiting m ≡ recordAt m (slot (word.log2size w) (word.rd w)) ∷ waiting m′
-      by-distance zero q =
-          absurd (some-waits n w (a .size .few) (a .index) e (none-waits n (word.rd w) (word.wr w) (a .index .waiting .rd-in) (a .index .waiting .wr-in) q))
-      by-distance (suc k) q =
-          before ∙ ap (λ (j : ℕ). recordsFrom n m j (word.rd w)) q
-          ∙ ap₂ (λ (j : ℕ) (rs : List Record). recordAt m (slot j (word.rd w)) ∷ rs) (sym (a .index .size)) (sym (rest k q))
+      by-count : (k : ℕ) → count ≡ k → waiting m ≡ recordAt m (slot (word.log2size w) rd) ∷ waiting (set m 0 (readOut w))
+      by-count zero q = absurd (some-waits n w small (a .index) e (none-waits n rd wr (a .index .waiting .rd-in) (a .index .waiting .wr-in) q))
+      by-count (suc k) q =
+          before ∙ ap (λ (j : ℕ). recordsFrom n m j rd) q
+          ∙ ap₂ (λ (j : ℕ) (rs : List Record). recordAt m (slot j rd) ∷ rs) (sym (a .index .size)) (sym (rest k q))
 
-  -- a memory with the same index word and every other slot than the one at WR
-  pub cut-waiting : (m′ : List ℕ) → word.isFull w ≡ false → indexOf m′ ≡ w → ((j : ℕ) → (j ≡ word.free w → ⊥) → recordAt m′ j ≡ recordAt m j)
-      → waiting m′ ≡ waiting m
-  unfolding word.free
-  cut-waiting m′ e s same =
-      waiting-by n m′ (a .size .few) (rw s (a .index))
-      ∙ rw s (records-kept n m m′ (word.wr w) (λ j q. same j (λ z. q (rw (a .index .size) at z))) (distance n (word.rd w) (word.wr w)) (word.rd w) refl (has-room n w (a .size .few) (a .index) e))
-      ∙ sym before
+  -- a memory that differs in the slot at WR alone, where the ring is not full
+  module _ (m′ : List ℕ) (room : word.isFull w ≡ false) (same : (j : ℕ) → (j ≡ word.free w → ⊥) → recordAt m′ j ≡ recordAt m j) where
+    old-kept : recordsFrom n m′ count rd ≡ recordsFrom n m count rd
+    unfolding word.free
+    old-kept =
+        records-kept n m m′ wr (λ j q. same j (λ z. q (rw (a .index .size) at z))) count rd refl (has-room n w small (a .index) room)
 
-  -- one with WR moved on besides: the slot at WR is the new record, behind the others
-  pub write-waiting : (m′ : List ℕ) → word.isFull w ≡ false → indexOf m′ ≡ written w → ((j : ℕ) → (j ≡ word.free w → ⊥) → recordAt m′ j ≡ recordAt m j)
-      → waiting m′ ≡ waiting m ++ (recordAt m′ (word.free w) ∷ [])
-  unfolding word.free
-  write-waiting m′ e s same =
-      let small = a .size .few in
-      let f = a .index in
-      let room = has-room n w small f e in
-      waiting-by n m′ small (rw s (written-formed n w small f e))
-      ∙ rw (s, written-keeps w word.rdBits tt, written-sets n w small f, distance-more n (word.rd w) (word.wr w) (distance n (word.rd w) (word.wr w)) refl room)
-      (records-more n m′ (word.wr w) (distance n (word.rd w) (word.wr w)) (word.rd w) (f .waiting .rd-in) (f .waiting .wr-in) refl)
-      ∙ ap₂ (λ (rs : List Record) (k : ℕ). rs ++ (recordAt m′ (slot k (word.wr w)) ∷ []))
-      (records-kept n m m′ (word.wr w) (λ j q. same j (λ z. q (rw (f .size) at z))) (distance n (word.rd w) (word.wr w)) (word.rd w) refl room ∙ sym before)
-      (sym (f .size))
+    -- and keeps the index word: the records are the old ones
+    pub cut-waiting : indexOf m′ ≡ w → waiting m′ ≡ waiting m
+    cut-waiting s = waiting-by n m′ small (rw s (a .index)) ∙ rw s old-kept ∙ sym before
+
+    -- or moves WR on: those, and behind them the one in that slot
+    pub write-waiting : indexOf m′ ≡ written w → waiting m′ ≡ waiting m ++ (recordAt m′ (word.free w) ∷ [])
+    unfolding word.free
+    write-waiting s =
+        let f = a .index in
+        waiting-by n m′ small (rw s (written-formed n w small f room))
+        ∙ rw (s, written-keeps w word.rdBits tt, written-sets n w small f, distance-more n rd wr count refl (has-room n w small f room))
+        (records-more n m′ wr count rd (f .waiting .rd-in) (f .waiting .wr-in) refl)
+        ∙ ap₂ (λ (rs : List Record) (k : ℕ). rs ++ (recordAt m′ (slot k wr) ∷ [])) (old-kept ∙ sym before) (sym (f .size))
