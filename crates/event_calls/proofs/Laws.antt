@@ -7,7 +7,6 @@ use mathlib.Core.Logic.{_⊎_, inl, inr, ⊎-elim}
 use Prim.Native.Nat.{ℕ, _≤_, _<_}
 use native.Mathlib.Omega.{arith}
 use lib.ListN.{set, length-set}
-use lib.Seq.{getD-set-same}
 use Rattle.words.specs.Outcomes.{Outcome, with}
 use Rattle.words.specs.Stores.{Store, afterStores}
 use Rattle.words.proofs.Truth.{less-or-not}
@@ -19,9 +18,9 @@ use Rattle.events.specs.Word.{rdBits, wrBits, outstanding, isFull, free}
 use Rattle.events.specs.Stores.{written, flipped}
 use Rattle.events.specs.Events.{indexOf, recordOf, waiting, check}
 use Rattle.events.proofs.Formed.{Formed}
-use Rattle.events.proofs.Checks.{Accepts, accepts, says, has-index}
+use Rattle.events.proofs.Checks.{Accepts, accepts, says}
 use Rattle.events.proofs.Index.{written-outstanding, flipped-keeps, flipped-outstanding, flipped-formed}
-use Rattle.events.proofs.Waiting.{flag-waiting}
+use Rattle.events.proofs.Waiting.{stored-word, flag-waiting}
 use Rattle.event_calls.specs.declared.WriteEnd.{WriteEnd}
 use Rattle.event_calls.specs.declared.WriteEnd.the-variants.{Stored, Dropped, Cut}
 use Rattle.event_calls.specs.declared.Writing.{Writing}
@@ -34,12 +33,9 @@ use Rattle.event_calls.proofs.Cases.{drops-quietly, drops-cut, drops-fl
 use Rattle.event_calls.proofs.Written.{stored-cut, stored-whole, stored-index, stored-accepted}
 
 -- a recorder whose index word is stored anew
-module _ (m : List ℕ) (n v : ℕ) (a : Accepts m n) where
-  pub stored-word : indexOf (set m 0 v) ≡ v
-  stored-word = getD-set-same m 0 v 0 (has-index m n (a .size))
-
-  pub index-stored : Formed n v → Accepts (set m 0 v) n
-  index-stored f = record { size = record { words = length-set m 0 v ∙ a .size .words; few = a .size .few }; index = rw stored-word f }
+pub index-stored : (m : List ℕ) (n v : ℕ) → Accepts m n → Formed n v → Accepts (set m 0 v) n
+index-stored m n v a f =
+    record { size = record { words = length-set m 0 v ∙ a .size .words; few = a .size .few }; index = rw (stored-word m n a v) f }
 
 -- a write that ended so after so many stores, and left the memory m′
 abbrev ended : WriteEnd → ℕ → List ℕ → Outcome (List ℕ) WriteAnswer
@@ -131,7 +127,7 @@ module _ (m bytes : List ℕ) (k : ℕ) where
       by-case : Wrote m bytes k → outstanding (indexOf (write m bytes k .memory)) ≡ overflowByWrite (write m bytes k .answer) (outstanding w)
       by-case (refuses why e) = rw e
       by-case (drops n a full t e) = rw e t
-      by-case (flips n a full t z e) = rw (e, stored-word m n (flipped w) a) (flipped-outstanding w t)
+      by-case (flips n a full t z e) = rw (e, stored-word m n a (flipped w)) (flipped-outstanding w t)
       by-case (flips-not n a full t z e) = rw e
       by-case (stores n a room h e) = rw e (by-index _ (stored-index m n r a room k))
       by-case (stores-part n a room h e) = rw e (by-index _ (stored-index m n r a room k))

@@ -16,7 +16,7 @@ use Rattle.events.specs.Events.{indexOf, recordAt, waiting, check}
 use Rattle.events.proofs.Formed.{Formed}
 use Rattle.events.proofs.Checks.{Accepts, accepts, says}
 use Rattle.events.proofs.Index.{read-outstanding, read-formed, acknowledged-keeps, acknowledged-quiet, acknowledged-formed}
-use Rattle.events.proofs.Waiting.{flag-waiting, read-waiting}
+use Rattle.events.proofs.Waiting.{stored-word, flag-waiting, read-waiting}
 use Rattle.event_calls.specs.declared.ReadRefusal.{ReadRefusal}
 use Rattle.event_calls.specs.declared.ReadRefusal.the-variants.{Recorder as OfRecorder, Empty}
 use Rattle.event_calls.specs.declared.ReadAnswer.{ReadAnswer}
@@ -28,7 +28,7 @@ use Rattle.event_calls.specs.declared.AcknowledgeAnswer.the-variants.{Re
 use Rattle.event_calls.specs.Calls.{read, acknowledge}
 use Rattle.event_calls.specs.Told.{queueByRead, overflowByAcknowledge}
 use Rattle.event_calls.proofs.Cases.{read-refused, read-empty, read-stores, acknowledge-refused, acknowledge-none, acknowledge-stores}
-use Rattle.event_calls.proofs.Laws.{stored-word, index-stored}
+use Rattle.event_calls.proofs.Laws.{index-stored}
 
 -- Which way a call with outcome o goes from the memory m. Refused: nothing is stored. Or, from an accepted recorder on which the
 -- call's own test is t, carried out: the index word becomes v.
@@ -96,7 +96,7 @@ module _ (m : List ℕ) where
     where
       by-way : ReadWay → outstanding (indexOf (read m .memory)) ≡ outstanding w
       by-way (stops why e) = rw e
-      by-way (stores n a t e) = rw (e, stored-word m n (readOut w) a) (read-outstanding w)
+      by-way (stores n a t e) = rw (e, stored-word m n a (readOut w)) (read-outstanding w)
 
   abbrev pub AcknowledgeWay : Type 0
   AcknowledgeWay = Way m (acknowledge m) NotAcknowledged Acknowledged (outstanding w) true (acknowledged w)
@@ -132,7 +132,7 @@ module _ (m : List ℕ) where
     where
       by-way : AcknowledgeWay → outstanding (indexOf (acknowledge m .memory)) ≡ overflowByAcknowledge (acknowledge m .answer) (outstanding w)
       by-way (stops why e) = rw e
-      by-way (stores n a t e) = rw (e, stored-word m n (acknowledged w) a) (acknowledged-quiet w)
+      by-way (stores n a t e) = rw (e, stored-word m n a (acknowledged w)) (acknowledged-quiet w)
 
   -- acknowledged, there is none to acknowledge
   pub acknowledge-again : acknowledge m .answer ≡ Acknowledged → acknowledge (acknowledge m .memory) ≡ with (NotAcknowledged NoOverflow) (acknowledge m .memory)

@@ -15,6 +15,7 @@ use Rattle.events.specs.Word.{outstanding, isEmpty, isFull, oldest, free}
 use Rattle.events.specs.Stores.{readOut}
 use Rattle.events.specs.Events.{indexOf, recordOf, waiting}
 use Rattle.events.proofs.Checks.{Accepts, accepts}
+use Rattle.events.proofs.Waiting.{stored-word}
 use Rattle.events.proofs.Counts.{waiting-fits, full-count, count-full, empty-none, none-empty, free-oldest}
 use Rattle.event_calls.specs.declared.WriteEnd.{WriteEnd}
 use Rattle.event_calls.specs.declared.WriteEnd.the-variants.{Stored, Dropped, Cut}
@@ -26,7 +27,7 @@ use Rattle.event_calls.specs.declared.ReadAnswer.the-variants.{Refused a
 use Rattle.event_calls.specs.Calls.{write, read, acknowledge}
 use Rattle.event_calls.specs.Told.{byEnd, queueByWrite, overflowByEnd, overflowByWrite, Call, Write, Read, Acknowledge, leaves, queueBy, overflowBy, leavesAll, queueAll, overflowAll, Ends}
 use Rattle.event_calls.proofs.Cases.{read-empty, read-stores}
-use Rattle.event_calls.proofs.Laws.{full-told, full-tells, full-cut, room-whole, room-part, write-queue, write-overflow, write-accepted, stored-word}
+use Rattle.event_calls.proofs.Laws.{full-told, full-tells, full-cut, room-whole, room-part, write-queue, write-overflow, write-accepted}
 use Rattle.event_calls.proofs.OneStore.{read-accepted, read-oldest, read-queue, read-overflow, acknowledge-accepted, acknowledge-queue, acknowledge-overflow}
 
 -- what the answer's end says of the queue and of the overflow
@@ -129,7 +130,7 @@ module _ (m : List ℕ) (n : ℕ) (a : Accepts m n) where
       by-test true t =
           let z : _≡_ {A = ℕ} 0 1 = cc (ap (λ (o : Outcome (List ℕ) ReadAnswer). o .answer) (read-empty m n (accepts m n a) t)) in absurd (omega arith)
       by-test false t =
-          rw (ap (λ (o : Outcome (List ℕ) ReadAnswer). o .memory) (read-stores m n (accepts m n a) t), stored-word m n (readOut (indexOf m)) a)
+          rw (ap (λ (o : Outcome (List ℕ) ReadAnswer). o .memory) (read-stores m n (accepts m n a) t), stored-word m n a (readOut (indexOf m)))
           (free-oldest m n a (count-full m n a full))
 
 -- over any calls, one after the other: the records that wait and the overflow are those that the answers tell

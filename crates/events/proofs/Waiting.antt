@@ -87,15 +87,15 @@ module _ (m : List ℕ) (n : ℕ) (a : Accepts m n) where
 
   -- a store to the index word leaves every slot
   module _ (v : ℕ) where
-    stored-index : indexOf (set m 0 v) ≡ v
-    stored-index = getD-set-same m 0 v 0 (has-index m n (a .size))
+    pub stored-word : indexOf (set m 0 v) ≡ v
+    stored-word = getD-set-same m 0 v 0 (has-index m n (a .size))
 
     stored-slots : (k i : ℕ) → recordsFrom n (set m 0 v) k i ≡ recordsFrom n m k i
     stored-slots k i = records-same n m (set m 0 v) (λ j. record-kept m 0 v j (λ q. omega (arith, q .from))) k i
 
     -- and all the records, if it moves no index
     pub flag-waiting : Formed n v → word.rd v ≡ rd → word.wr v ≡ wr → waiting (set m 0 v) ≡ waiting m
-    flag-waiting f p q = waiting-by n (set m 0 v) small (rw stored-index f) ∙ rw (stored-index, p, q) (stored-slots count rd) ∙ sym before
+    flag-waiting f p q = waiting-by n (set m 0 v) small (rw stored-word f) ∙ rw (stored-word, p, q) (stored-slots count rd) ∙ sym before
 
   -- the oldest read: it was the first of them, and the rest stay
   pub read-waiting : word.isEmpty w ≡ false → waiting m ≡ recordAt m (word.oldest w) ∷ waiting (set m 0 (readOut w))
@@ -104,8 +104,8 @@ module _ (m : List ℕ) (n : ℕ) (a : Accepts m n) where
     where
       rest : (k : ℕ) → count ≡ suc k → waiting (set m 0 (readOut w)) ≡ recordsFrom n m k (next n rd)
       rest k q =
-          waiting-by n (set m 0 (readOut w)) small (rw (stored-index (readOut w)) (read-formed n w small (a .index) e))
-          ∙ rw (stored-index (readOut w), read-sets n w small (a .index), read-keeps w word.wrBits tt, distance-next n rd wr k q)
+          waiting-by n (set m 0 (readOut w)) small (rw (stored-word (readOut w)) (read-formed n w small (a .index) e))
+          ∙ rw (stored-word (readOut w), read-sets n w small (a .index), read-keeps w word.wrBits tt, distance-next n rd wr k q)
           (stored-slots (readOut w) k (next n rd))
 
       by-count : (k : ℕ) → count ≡ k → waiting m ≡ recordAt m (slot (word.log2size w) rd) ∷ waiting (set m 0 (readOut w))
