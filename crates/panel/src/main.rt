@@ -1,0 +1,89 @@
+// The fire panel beside the recorder: a record is written, power goes after each number of stores, and the panel reads what waits.
+// Beside it, what it would have read from a recorder that stores the index first.
+mod scene;
+
+use text::say;
+use text::told;
+
+// An allowance that a record doesn't use up.
+const ENOUGH: u64 = 8;
+
+fn main() {
+    say(b"The ring before: two slots, both read out\n");
+    slot(1);
+    slot(5);
+    told(
+        b"the record to write: {|fire|a warm freezer}, aisle #, # degrees, minute #\n",
+        scene::fault(),
+    );
+    cut(0);
+    cut(1);
+    cut(2);
+    cut(3);
+    cut(4);
+    cut(5);
+}
+
+fn slot(at: usize) {
+    let ring = scene::ring();
+    if at + 3 < ring.len() {
+        told(
+            b"  left in a slot: {|fire|a warm freezer}, aisle #, # degrees, minute #\n",
+            [
+                ring[at],
+                ring[at + 1],
+                ring[at + 2],
+                ring[at + 3],
+                0,
+                0,
+                0,
+                0,
+            ],
+        );
+    }
+}
+
+// Whether it was cut.
+fn write(ring: &mut [u64; 9], allowance: u64) -> bool {
+    let mut answer = [0u64; 8];
+    let code = host::tahvenno_event_write(&mut *ring, &scene::bytes(), allowance, &mut answer);
+    if code == 0 {
+        told(b"{Stored|Dropped|Cut}, stores #\n", answer);
+    } else {
+        say(b"refused\n");
+    }
+    answer[0] == 2
+}
+
+// Reads from a copy, so that the ring stays as it is.
+fn panel(ring: &[u64; 9]) {
+    let mut seen = *ring;
+    let mut answer = [0u64; 8];
+    if host::tahvenno_event_read(&mut seen, &mut answer) == 0 {
+        told(
+            b"{|fire|a warm freezer}, aisle #, # degrees, minute #\n",
+            answer,
+        );
+    } else {
+        say(b"nothing waits\n");
+    }
+}
+
+fn cut(allowance: u64) {
+    let mut ring = scene::ring();
+    told(
+        b"\nPower for # stores\n  the unit: ",
+        [allowance, 0, 0, 0, 0, 0, 0, 0],
+    );
+    let again = write(&mut ring, allowance);
+    say(b"  the panel: ");
+    panel(&ring);
+    say(b"  the index first, the panel would read: ");
+    panel(&scene::index_first(allowance));
+    if again {
+        say(b"  power is back, the write is made again: ");
+        write(&mut ring, ENOUGH);
+        say(b"  the panel: ");
+        panel(&ring);
+    }
+}
