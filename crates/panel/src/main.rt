@@ -9,13 +9,12 @@ use text::told;
 const ENOUGH: u64 = 8;
 
 fn main() {
-    say(b"The ring before: two slots, both read out\n");
-    slot(1);
-    slot(5);
-    told(
-        b"the record to write: {|fire|a warm freezer}, aisle #, # degrees, minute #\n",
-        scene::fault(),
-    );
+    say(b"The ring before: two slots, both read out\n  left in slot 0: ");
+    event(scene::old_fire());
+    say(b"  left in slot 1: ");
+    event(scene::old_fault());
+    say(b"The record to write: ");
+    event(scene::fault());
     cut(0);
     cut(1);
     cut(2);
@@ -24,23 +23,8 @@ fn main() {
     cut(5);
 }
 
-fn slot(at: usize) {
-    let ring = scene::ring();
-    if at + 3 < ring.len() {
-        told(
-            b"  left in a slot: {|fire|a warm freezer}, aisle #, # degrees, minute #\n",
-            [
-                ring[at],
-                ring[at + 1],
-                ring[at + 2],
-                ring[at + 3],
-                0,
-                0,
-                0,
-                0,
-            ],
-        );
-    }
+fn event(w: [u64; 8]) {
+    told(b"{|fire|a warm freezer}, aisle #, # degrees, minute #\n", w);
 }
 
 // Whether it was cut.
@@ -56,14 +40,15 @@ fn write(ring: &mut [u64; 9], allowance: u64) -> bool {
 }
 
 // Reads from a copy, so that the ring stays as it is.
-fn panel(ring: &[u64; 9]) {
-    let mut seen = *ring;
+fn panel(ring: [u64; 9]) {
+    let mut copy = ring;
+    read(&mut copy);
+}
+
+fn read(ring: &mut [u64; 9]) {
     let mut answer = [0u64; 8];
-    if host::tahvenno_event_read(&mut seen, &mut answer) == 0 {
-        told(
-            b"{|fire|a warm freezer}, aisle #, # degrees, minute #\n",
-            answer,
-        );
+    if host::tahvenno_event_read(&mut *ring, &mut answer) == 0 {
+        event(answer);
     } else {
         say(b"nothing waits\n");
     }
@@ -77,13 +62,13 @@ fn cut(allowance: u64) {
     );
     let again = write(&mut ring, allowance);
     say(b"  the panel: ");
-    panel(&ring);
+    panel(ring);
     say(b"  the index first, the panel would read: ");
-    panel(&scene::index_first(allowance));
+    panel(scene::index_first(allowance));
     if again {
         say(b"  power is back, the write is made again: ");
         write(&mut ring, ENOUGH);
         say(b"  the panel: ");
-        panel(&ring);
+        panel(ring);
     }
 }

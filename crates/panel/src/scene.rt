@@ -5,9 +5,18 @@ const INDEX: u64 = 0x400_0020_0002;
 
 const WRITTEN: u64 = 0x400_0030_0002;
 
-// Slot 0 still has an old fire in it.
+pub fn old_fire() -> [u64; 8] {
+    [1, 3, 70, 17, 0, 0, 0, 0]
+}
+
+pub fn old_fault() -> [u64; 8] {
+    [2, 5, 1, 480, 0, 0, 0, 0]
+}
+
 pub fn ring() -> [u64; 9] {
-    [INDEX, 1, 3, 70, 17, 2, 5, 1, 480]
+    let a = old_fire();
+    let b = old_fault();
+    [INDEX, a[0], a[1], a[2], a[3], b[0], b[1], b[2], b[3]]
 }
 
 pub fn fault() -> [u64; 8] {
