@@ -75,13 +75,12 @@
  *
  * THE RECORDER is a ring of records of 32 bytes, in words of its own; no call takes both these and the kept memory. event_write
  * makes 5 stores: the record's four words, the first one first, to the slot at WR, then the index word with WR one further. Until
- * that last store the record is not in the ring, whatever its slot holds, so a cut leaves the old records, or these and the whole
- * new one. Each call starts from its first store: where there is room, an allowance below 5 ends Cut however often it is given.
+ * that last store the record is not in the ring, whatever its slot holds; with it the whole record is. So no cut shows a part of it.
+ * Each call starts from its first store: where there is room, an allowance below 5 ends Cut however often it is given.
  *
- * If every slot holds a record that nobody has read, the new one is dropped, which is an answer (TAHVENNO_EVENT_DROPPED) and no
- * refusal. The first one dropped flips OVERFLOW, by one store; at allowance 0 it ends Cut instead. From then on, until
- * event_acknowledge, an overflow is outstanding and further drops store nothing. An overflow does not keep records out: as soon as
- * one is read there is room, and a slot that was read out is used again.
+ * If every slot holds a record that nobody has read, the new one is dropped: the call returns 0 and ends TAHVENNO_EVENT_DROPPED.
+ * The first one dropped flips OVERFLOW, by one store; at allowance 0 it ends Cut instead. From then on, until event_acknowledge, an
+ * overflow is outstanding and further drops store nothing. An overflow does not keep records out: each read makes room for one.
  *
  * event_read takes the oldest record out of the ring, and event_acknowledge ends the overflow. Each is one store of the index word.
  * Repeated after it has finished, an event_write stores its record once more or drops it, an event_read takes the next one out or
