@@ -17,7 +17,7 @@ use Rattle.event_calls.specs.declared.WriteEnd.{WriteEnd}
 use Rattle.event_calls.specs.declared.WriteEnd.the-variants.{Stored, Dropped, Cut}
 use Rattle.event_calls.specs.Calls as calls
 use Rattle.promises.specs.Numbers.{Rule, first}
-use Rattle.promises.specs.Recorder.{writeNumber, readNumber, acknowledgeNumber, ofRecorder, ofRead, ofAcknowledge, writeEnds}
+use Rattle.promises.specs.Recorder.{eventWriteNumber, eventReadNumber, eventAcknowledgeNumber, ofRecorder, ofEventRead, ofEventAcknowledge, eventWriteEnds}
 use Rattle.promises.proofs.Numbers.{ofAnswer}
 
 -- 15 and 16, and then the numbers of the call's own
@@ -31,32 +31,32 @@ module _ {A : Type 0} (m : List ℕ) (number : A → ℕ) (refuses : Refusal →
   by-index n e true t = rw (e, t) (says-rest n)
   by-index n e false t = rw (e, t) (says-why BadIndex)
 
-  by-length : (f : Found) → events.log2Of m ≡ f → told (events.check m) ≡ first (ofRecorder m ++ rules)
+  by-log2 : (f : Found) → events.log2Of m ≡ f → told (events.check m) ≡ first (ofRecorder m ++ rules)
   unfolding events.check
-  by-length (At n) e = by-index n e (wellFormed n (events.indexOf m)) refl
-  by-length Nothing e = rw e (says-why BadLength)
+  by-log2 (At n) e = by-index n e (wellFormed n (events.indexOf m)) refl
+  by-log2 Nothing e = rw e (says-why BadLength)
 
   recorder-first : told (events.check m) ≡ first (ofRecorder m ++ rules)
-  recorder-first = by-length (events.log2Of m) refl
+  recorder-first = by-log2 (events.log2Of m) refl
 
 module _ (m : List ℕ) where
-  pub write-number : (bytes : List ℕ) (k : ℕ) → writeNumber (calls.write m bytes k .answer) ≡ first (ofRecorder m ++ [])
+  pub event-write-number : (bytes : List ℕ) (k : ℕ) → eventWriteNumber (calls.write m bytes k .answer) ≡ first (ofRecorder m ++ [])
   unfolding calls.write
-  write-number bytes k = recorder-first m (ofAnswer writeNumber) _ _ [] (λ why. refl) (λ n. refl)
+  event-write-number bytes k = recorder-first m (ofAnswer eventWriteNumber) _ _ [] (λ why. refl) (λ n. refl)
 
-  pub read-number : readNumber (calls.read m .answer) ≡ first (ofRecorder m ++ ofRead m)
+  pub event-read-number : eventReadNumber (calls.read m .answer) ≡ first (ofRecorder m ++ ofEventRead m)
   unfolding calls.read
-  read-number =
-      recorder-first m (ofAnswer readNumber) _ _ (ofRead m) (λ why. refl) (λ n. through (ofAnswer readNumber) (isEmpty (events.indexOf m)) _ _)
+  event-read-number =
+      recorder-first m (ofAnswer eventReadNumber) _ _ (ofEventRead m) (λ why. refl) (λ n. through (ofAnswer eventReadNumber) (isEmpty (events.indexOf m)) _ _)
 
-  pub acknowledge-number : acknowledgeNumber (calls.acknowledge m .answer) ≡ first (ofRecorder m ++ ofAcknowledge m)
+  pub event-acknowledge-number : eventAcknowledgeNumber (calls.acknowledge m .answer) ≡ first (ofRecorder m ++ ofEventAcknowledge m)
   unfolding calls.acknowledge
-  acknowledge-number =
-      recorder-first m (ofAnswer acknowledgeNumber) _ _ (ofAcknowledge m) (λ why. refl)
-      (λ n. through (ofAnswer acknowledgeNumber) (not (outstanding (events.indexOf m))) _ _)
+  event-acknowledge-number =
+      recorder-first m (ofAnswer eventAcknowledgeNumber) _ _ (ofEventAcknowledge m) (λ why. refl)
+      (λ n. through (ofAnswer eventAcknowledgeNumber) (not (outstanding (events.indexOf m))) _ _)
 
 -- an end's number is its place among the ends, so that the number tells which it was
-pub write-ends : (e : WriteEnd) → getD writeEnds (calls.endNumber e) Cut ≡ e
-write-ends Stored = refl
-write-ends Dropped = refl
-write-ends Cut = refl
+pub event-write-ends : (e : WriteEnd) → getD eventWriteEnds (calls.endNumber e) Cut ≡ e
+event-write-ends Stored = refl
+event-write-ends Dropped = refl
+event-write-ends Cut = refl

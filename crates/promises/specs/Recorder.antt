@@ -19,17 +19,17 @@ use Rattle.event_calls.specs.Calls as calls
 use Rattle.promises.specs.Numbers.{Rule, some}
 
 -- the number of an answer: its refusal's, or 0 where the call was carried out, as it is when a record is dropped
-abbrev pub writeNumber : WriteAnswer → ℕ
-writeNumber (NotWritten why) = events.number why
-writeNumber (Done writing) = 0
+abbrev pub eventWriteNumber : WriteAnswer → ℕ
+eventWriteNumber (NotWritten why) = events.number why
+eventWriteNumber (Done writing) = 0
 
-abbrev pub readNumber : ReadAnswer → ℕ
-readNumber (NotRead why) = calls.readNumber why
-readNumber (Oldest r) = 0
+abbrev pub eventReadNumber : ReadAnswer → ℕ
+eventReadNumber (NotRead why) = calls.readNumber why
+eventReadNumber (Oldest r) = 0
 
-abbrev pub acknowledgeNumber : AcknowledgeAnswer → ℕ
-acknowledgeNumber (NotAcknowledged why) = calls.acknowledgeNumber why
-acknowledgeNumber Acknowledged = 0
+abbrev pub eventAcknowledgeNumber : AcknowledgeAnswer → ℕ
+eventAcknowledgeNumber (NotAcknowledged why) = calls.acknowledgeNumber why
+eventAcknowledgeNumber Acknowledged = 0
 
 -- the index word is ill formed, or holds another n than the length's
 abbrev pub illFormed : Found → ℕ → Bool
@@ -44,12 +44,12 @@ ofRecorder m =
     ∷ []
 
 -- then each call's own
-abbrev pub ofRead : List ℕ → List Rule
-ofRead m = record { number = 17; applies = isEmpty (events.indexOf m) } ∷ []
+abbrev pub ofEventRead : List ℕ → List Rule
+ofEventRead m = record { number = 17; applies = isEmpty (events.indexOf m) } ∷ []
 
-abbrev pub ofAcknowledge : List ℕ → List Rule
-ofAcknowledge m = record { number = 18; applies = not (outstanding (events.indexOf m)) } ∷ []
+abbrev pub ofEventAcknowledge : List ℕ → List Rule
+ofEventAcknowledge m = record { number = 18; applies = not (outstanding (events.indexOf m)) } ∷ []
 
 -- the ends in the order of their numbers
-abbrev pub writeEnds : List WriteEnd
-writeEnds = Stored ∷ Dropped ∷ Cut ∷ []
+abbrev pub eventWriteEnds : List WriteEnd
+eventWriteEnds = Stored ∷ Dropped ∷ Cut ∷ []
