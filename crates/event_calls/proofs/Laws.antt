@@ -103,7 +103,7 @@ module _ (m bytes : List ℕ) (k : ℕ) where
       by-check (Refused why) e = refuses why (write-refused m bytes k why e)
       by-check (Accepted n) e = by-room n (says m .accepted n e) (isFull w) refl
 
-  -- the records that wait after it are those that its answer tells: the old ones, and the whole new one exactly if it ended Stored
+  -- the records that wait after it are those that its answer tells: those before, and behind them the new one exactly if it ended Stored
   pub write-queue : waiting (write m bytes k .memory) ≡ queueByWrite r (write m bytes k .answer) (waiting m)
   write-queue = by-case wrote
     where

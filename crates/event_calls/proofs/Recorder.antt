@@ -69,7 +69,7 @@ module _ (m bytes : List ℕ) (k : ℕ) where
   pub cut-keeps : Ends Cut answer → waiting m′ ≡ waiting m
   cut-keeps e = write-queue m bytes k ∙ queue-by Cut (recordOf bytes) answer (waiting m) e
 
-  -- at every allowance the old records, or those and the whole new one
+  -- at every allowance the records before, with no part of the new one; or it waits behind them, whole
   pub never-a-part : (waiting m′ ≡ waiting m) ⊎ (waiting m′ ≡ waiting m ++ (recordOf bytes ∷ []))
   never-a-part = rw (write-queue m bytes k) (one-of (recordOf bytes) answer (waiting m))
 
@@ -117,7 +117,7 @@ module _ (m : List ℕ) (n : ℕ) (a : Accepts m n) where
       by-test false t =
           let z : _≡_ {A = ℕ} 0 1 = cc (ap (λ (o : Outcome (List ℕ) ReadAnswer). o .answer) (read-stores m n (accepts m n a) t)) in absurd (omega arith)
 
-  -- a slot read out is used again: after a read no write is dropped, and on a full ring the next goes into that very slot
+  -- a read makes room: the next write is not dropped, and on a full ring it goes into the very slot that was read
   pub read-frees : (r : Record) → read m .answer ≡ Oldest r → (bytes : List ℕ) (k : ℕ) → 5 ≤ k
       → write (read m .memory) bytes k .answer ≡ Done (record { end = Stored; stores = 5 })
   read-frees r q bytes k h =

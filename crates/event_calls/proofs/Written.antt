@@ -96,7 +96,7 @@ module _ (m : List ℕ) (n : ℕ) (r : Record) (a : Accepts m n) (room : isFull 
   has-free : 4 * free w + 5 ≤ length m
   has-free = has-slot m n (free w) (a .size) (free-lt n w (a .index))
 
-  -- with fewer than five stores the records that wait are the old ones; with five or more, those and the whole new one
+  -- with fewer than five stores the records that wait are those before; with five or more the new one waits behind them, whole
   pub stored-cut : (k : ℕ) → k < 5 → waiting (stored k) ≡ waiting m
   stored-cut k h = cut-waiting m n a (stored k) room (others-kept (free w) r (written w) m k) (index-waits (free w) r (written w) m k h)
 

@@ -27,7 +27,7 @@ use Rattle.event_calls.specs.declared.AcknowledgeRefusal.the-variants.{R
 use Rattle.event_calls.specs.declared.AcknowledgeAnswer.{AcknowledgeAnswer}
 use Rattle.event_calls.specs.declared.AcknowledgeAnswer.the-variants.{Refused as NotAcknowledged, Acknowledged}
 
--- the paper's numbers of the refusals, and of the ends
+-- the paper's numbers of the refusals; the ends in the order in which it names them
 abbrev pub readNumber : ReadRefusal → ℕ
 readNumber (OfRecorder why) = events.number why
 readNumber Empty = 17

@@ -57,7 +57,7 @@ fn read(ring: &mut [u64; 9]) {
 fn cut(allowance: u64) {
     let mut ring = scene::ring();
     told(
-        b"\nPower for # stores\n  the unit: ",
+        b"\nPower for # of the five stores\n  the unit: ",
         [allowance, 0, 0, 0, 0, 0, 0, 0],
     );
     let again = write(&mut ring, allowance);
