@@ -54,7 +54,7 @@ fn one(word: u64, slot: [u64; 4]) -> Vec<u64> {
     [&[word], &slot[..]].concat()
 }
 
-/// The four words first and the index word last, from the first word on in every
+/// The record's words, then the index word, from the first word on in every
 /// call; a cut leaves the index word, so the old records.
 fn stored(checker: &mut Checker) {
     for flags in [0, OVERFLOW, SEEN, OVERFLOW | SEEN] {
@@ -98,7 +98,7 @@ fn dropped(checker: &mut Checker) {
     }
 }
 
-/// The oldest first; a slot read out is used again. Two slots, both in use.
+/// The oldest first; once it is read, its slot takes another. Two slots, both in use.
 fn read(checker: &mut Checker) {
     let n = 1 << 42;
     let mut events = [&[n | 0x20_0000], &OLD[..], &WORDS[..]].concat();

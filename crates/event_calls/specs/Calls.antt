@@ -55,7 +55,7 @@ writeStores slot r index =
 unfoldable pub storeAt : ℕ → Record → ℕ → ℕ → Store
 storeAt slot r index place = storeIn (writeStores slot r index) place
 
--- the stores of a record that is dropped: the flag flips if no overflow is outstanding
+-- the stores of a record that is dropped: none while an overflow is outstanding, else the one that flips the flag
 unfoldable pub dropStores : ℕ → List Store
 dropStores w = pick (outstanding w) [] (record { at = 0; value = flipped w } ∷ [])
 

@@ -100,7 +100,7 @@ fn steps(kept: &mut [u64], slot: usize, event: Record, index: u64, allowance: u6
     }
 }
 
-// Drops a record of a full ring: the flag flips if no overflow is outstanding, and else shows one already.
+// Drops a record of a full ring: the flag shows an overflow that is outstanding already, or is flipped to show one.
 fn drop_one(kept: &mut [u64], allowance: u64) -> Writing
     requires { ⌜ 0 < length (now kept) ⌝ }
     ensures { λ r. ⌜ Stores (dropStores (indexOf (now (kept .entry)))) WriteEnd.Dropped allowance (now (kept .entry)) (now (kept .exit)) r ⌝ }
