@@ -19,6 +19,10 @@ STORES = {
     ('control_calls', 'acknowledge'): 1,
     ('control_calls', 'clear_pending'): 1,
     ('control_calls', 'enable'): 1,
+    ('event_calls', 'step'): 2,
+    ('event_calls', 'drop_one'): 1,
+    ('event_calls', 'read'): 1,
+    ('event_calls', 'acknowledge'): 1,
     # to other memory: the words of an answer, lent fields, an array of its caller's
     ('host', 'tell'): 1,
     ('registers', 'acknowledge'): 1,

@@ -5,8 +5,8 @@
 
 #include "tahvenno.h"
 
-const char *const CALL_NAMES[CALLS] = {"run",    "fill",          "doorbell",  "acknowledge",
-                                       "enable", "clear_pending", "translate", "state"};
+const char *const CALL_NAMES[CALLS] = {"run",       "fill",  "doorbell",    "acknowledge", "enable",           "clear_pending",
+                                       "translate", "state", "event_write", "event_read",  "event_acknowledge"};
 
 void make_call(const struct call *call, const struct input *input, uint64_t *kept, const uint8_t *queue, struct outcome *outcome) {
     const struct access *access = &call->access;
@@ -26,6 +26,9 @@ void make_call(const struct call *call, const struct input *input, uint64_t *kep
                                       access->memattr, access->sh, access->hints, answer);
         break;
     case STATE: returned = tahvenno_state(kept, words, answer); break;
+    case EVENT_WRITE: returned = tahvenno_event_write(kept, words, queue, call->allowance, answer); break;
+    case EVENT_READ: returned = tahvenno_event_read(kept, words, answer); break;
+    case EVENT_ACKNOWLEDGE: returned = tahvenno_event_acknowledge(kept, words, answer); break;
     case CALLS: break;
     }
     outcome->returned = returned;
@@ -85,4 +88,10 @@ void any_call(struct dice *dice, const struct input *input, enum which which, st
     else if (below(dice, 2)) call->argument = roll(dice);
     any_access(dice, &call->access);
     if (below(dice, 4)) aim(dice, input, &call->access);
+}
+
+void any_event(struct dice *dice, enum which which, struct call *call) {
+    memset(call, 0, sizeof *call);
+    call->which = which;
+    call->allowance = any_allowance(dice);
 }

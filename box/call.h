@@ -1,14 +1,27 @@
-/* The eight calls of the unit as values, so that a test can make the same call twice. */
+/* The calls of the unit as values, so that a test can make the same call twice. */
 #ifndef CALL_H
 #define CALL_H
 
 #include "inputs.h"
 
-enum which { RUN, FILL, DOORBELL, ACKNOWLEDGE, ENABLE, CLEAR_PENDING, TRANSLATE, STATE, CALLS };
+enum which {
+    RUN,
+    FILL,
+    DOORBELL,
+    ACKNOWLEDGE,
+    ENABLE,
+    CLEAR_PENDING,
+    TRANSLATE,
+    STATE,
+    EVENT_WRITE, /* those from here on are on a recorder */
+    EVENT_READ,
+    EVENT_ACKNOWLEDGE,
+    CALLS
+};
 
 struct call {
     enum which which;
-    uint64_t allowance; /* run, fill */
+    uint64_t allowance; /* run, fill, event write */
     uint64_t row, w[4]; /* fill */
     uint64_t argument;  /* doorbell: WR; enable: on */
     struct access access;
@@ -26,5 +39,8 @@ void make_call(const struct call *call, const struct input *input, uint64_t *kep
 
 /* A call of this kind that fits the input, more often than not. */
 void any_call(struct dice *dice, const struct input *input, enum which which, struct call *call);
+
+/* A call on a recorder, whatever is in it. */
+void any_event(struct dice *dice, enum which which, struct call *call);
 
 #endif

@@ -1,8 +1,8 @@
 /* calls [SEED [COUNT]]: pseudo-random calls of the unit, and what comes of them as numbers that can be compared between machines.
  *
- * Accepted images, several calls in a row on each, and damaged ones; all eight calls. Prints a hash over every number returned,
- * every answer and every word of kept memory, now and then while it goes on, and how often each call gave each number and each
- * end. Ends with 1 where a refusal or an end never came up, or a call wrote beside its memory. */
+ * Accepted images and recorders, several calls in a row on each, and damaged ones; every call. Prints a hash over every number
+ * returned, every answer and every word of kept memory, now and then while it goes on, and how often each call gave each number
+ * and each end. Ends with 1 where a refusal or an end never came up, or a call wrote beside its memory. */
 #include <inttypes.h>
 #include <stdio.h>
 #include <stdlib.h>
@@ -10,11 +10,11 @@
 
 #include "call.h"
 
-enum { REFUSALS = 13, ENDS = 6, MARK_EVERY = 10000 };
+enum { REFUSALS = 19, ENDS = 6, MARK_EVERY = 10000 };
 
 /* What each call can return, a bit for each number, and how many ends its answer has. */
-static const unsigned RETURNS[CALLS] = {0x1F, 0xB8F, 0x2F, 0x4F, 0xF, 0x100F, 0x40F, 0xF};
-static const unsigned ENDS_OF[CALLS] = {5, 2, 0, 0, 0, 0, 6, 0};
+static const unsigned RETURNS[CALLS] = {0x1F, 0xB8F, 0x2F, 0x4F, 0xF, 0x100F, 0x40F, 0xF, 0x18001, 0x38001, 0x58001};
+static const unsigned ENDS_OF[CALLS] = {5, 2, 0, 0, 0, 0, 6, 0, 3, 0, 0};
 
 static uint64_t hash = UINT64_C(0xCBF29CE484222325), returned[CALLS][REFUSALS], ended[CALLS][ENDS];
 
@@ -57,7 +57,7 @@ static void one(const struct call *call, struct input *input) {
 static int report(void) {
     int wrong = 0;
     for (enum which which = RUN; which < CALLS; which++) {
-        printf("calls: %-13s returned", CALL_NAMES[which]);
+        printf("calls: %-17s returned", CALL_NAMES[which]);
         for (unsigned i = 0; i < REFUSALS; i++) {
             if (returned[which][i]) printf(" %u: %" PRIu64, i, returned[which][i]);
             wrong |= (returned[which][i] != 0) != (RETURNS[which] >> i & 1);
@@ -71,20 +71,40 @@ static int report(void) {
     return wrong;
 }
 
+/* Another image or recorder, and how many calls are to be made on it. */
+static uint64_t start(struct dice *dice, struct input *input, int events) {
+    if (events) any_ring(dice, input);
+    else any_input(dice, input, LARGEST, 8);
+    uint64_t calls = 1 + below(dice, 8);
+    if (below(dice, 3)) return calls;
+    if (events) damage_ring(dice, input);
+    else damage(dice, input);
+    return 1;
+}
+
+static void any(struct dice *dice, struct input *input, int events, struct call *call) {
+    if (events) {
+        any_event(dice, EVENT_WRITE + (enum which)below(dice, CALLS - EVENT_WRITE), call);
+        any_record(dice, input);
+    } else {
+        enum which which = (enum which)below(dice, EVENT_WRITE);
+        any_call(dice, input, which, call);
+    }
+}
+
 int main(int argc, char **argv) {
     static struct input input;
     struct dice dice = {argc > 1 ? strtoull(argv[1], NULL, 0) : 1};
     uint64_t count = argc > 2 ? strtoull(argv[2], NULL, 0) : 200000, left = 0;
     struct call call;
+    int events = 0;
     for (uint64_t i = 1; i <= count; i++) {
         if (left == 0) {
-            any_input(&dice, &input, LARGEST, 8);
-            left = 1 + below(&dice, 8);
-            if (below(&dice, 3) == 0) damage(&dice, &input), left = 1;
+            events = below(&dice, 4) == 0;
+            left = start(&dice, &input, events);
         }
         left--;
-        enum which which = (enum which)below(&dice, CALLS);
-        any_call(&dice, &input, which, &call);
+        any(&dice, &input, events, &call);
         one(&call, &input);
         if (i % MARK_EVERY == 0) printf("calls: %" PRIu64 " made, hash %016" PRIx64 "\n", i, hash);
     }

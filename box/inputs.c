@@ -248,3 +248,32 @@ void any_access(struct dice *dice, struct access *access) {
     case 2: access->hints = any_width(dice); break;
     }
 }
+
+void any_record(struct dice *dice, struct input *input) {
+    input->bytes = RECORD_BYTES;
+    for (size_t i = 0; i < RECORD_BYTES; i++) input->queue[i] = (uint8_t)roll(dice);
+}
+
+void ring_input(struct dice *dice, struct input *input, uint64_t n, uint64_t rd, uint64_t held, uint64_t flags) {
+    uint64_t slots = UINT64_C(1) << n;
+    input->words = 1 + 4 * slots;
+    input->kept[0] = rd | (rd + held) % (2 * slots) << WR_SHIFT | flags * OVERFLOW_FLAG | n << EVENTS_SHIFT;
+    for (size_t i = 1; i < input->words; i++) input->kept[i] = roll(dice);
+    any_record(dice, input);
+}
+
+void any_ring(struct dice *dice, struct input *input) {
+    uint64_t n = below(dice, below(dice, 4) ? 4 : MOST_EVENTS + 1), slots = UINT64_C(1) << n;
+    uint64_t rd = below(dice, 2 * slots), held = below(dice, 2) ? slots : below(dice, slots + 1), flags = below(dice, 4);
+    ring_input(dice, input, n, rd, held, flags);
+}
+
+void damage_ring(struct dice *dice, struct input *input) {
+    switch (below(dice, 6)) {
+    case 0: input->words += 1 + below(dice, 6); break;
+    case 1: input->words -= 1 + below(dice, 5); break;
+    case 2: input->words = 1 + 4 * (UINT64_C(1) << below(dice, MOST_EVENTS + 2)); break;
+    case 3: case 4: input->kept[0] ^= UINT64_C(1) << below(dice, 64); break;
+    case 5: input->kept[0] = any_width(dice); break;
+    }
+}

@@ -1,6 +1,6 @@
 /* Inputs for the tests of the compiled unit: images, queues and calls from repeatable random numbers, made from the layout that
- * document 01 gives, with the upper half of document 02, T-04, the limits of T-06 and the pending bit of T-08. Nothing here comes
- * from the unit.
+ * document 01 gives, with the upper half of document 02, T-04, the limits of T-06 and the pending bit of T-08; and recorders, as
+ * T-01 has them. Nothing here comes from the unit.
  * Identifiers come from small pools, so that rows and commands meet. */
 #ifndef INPUTS_H
 #define INPUTS_H
@@ -36,11 +36,18 @@ extern const struct size LARGEST, SMALL;
 /* Bits 63:52 of an address: all 0 in the lower half, all 1 in the upper, which stage 1 rows may have as their input. */
 #define UPPER_HALF (~UINT64_C(0) << 52)
 
+/* A recorder, and parts of its index word; RD and WR stand where the control word has them. */
+enum { MOST_EVENTS = 7, RECORD_BYTES = 32, RECORD_STORES = 5 };
+#define OVERFLOW_FLAG (UINT64_C(1) << 40)
+#define SEEN_FLAG (UINT64_C(1) << 41)
+#define EVENTS_SHIFT 42
+
 struct dice {
     uint64_t state;
 };
 
-/* Kept memory, the queue that it asks for, and features. `kept` has room for damage to add words. */
+/* Kept memory, the queue that it asks for, and features. `kept` has room for damage to add words. For the calls of the recorder its
+ * words are the kept memory, and the record to be written is the queue. */
 struct input {
     uint64_t kept[ROOM];
     size_t words;
@@ -85,5 +92,14 @@ void spread_input(struct input *input);
 void damage(struct dice *dice, struct input *input);
 
 void any_access(struct dice *dice, struct access *access);
+
+/* A recorder of 2^n slots, full of anything, with so many records from `rd` on; and any recorder. Flags are 0 to 3, the overflow's
+ * lowest. */
+void ring_input(struct dice *dice, struct input *input, uint64_t n, uint64_t rd, uint64_t held, uint64_t flags);
+void any_ring(struct dice *dice, struct input *input);
+void any_record(struct dice *dice, struct input *input);
+
+/* The same as for images. */
+void damage_ring(struct dice *dice, struct input *input);
 
 #endif

@@ -2,7 +2,7 @@
  *
  * What a run has to store is read from what it leaves at allowance 0, 1, 2 and so on: one word differs each time, since clearing
  * a used row, moving RD and flipping GERROR all change the word. At the limits, where that takes too long, it is read from calls
- * of one store each. What a fill and a control call have to store is in their words.
+ * of one store each. What a fill, a control call and the calls of the recorder have to store is in their words.
  * Every call is then made on watched memory, and word, value, order and number of the stores that are seen have to be those; a
  * call that is refused, a transaction and the state have to store nothing. Ends with 1 at the first difference, and where a kind
  * of store never came up. */
@@ -16,6 +16,7 @@
 #include "tahvenno.h"
 #include "watch.h"
 
+_Static_assert(MOST_EVENTS == TAHVENNO_MAX_EVENT_N && RECORD_BYTES == TAHVENNO_RECORD_BYTES, "the header has other limits");
 _Static_assert(MOST_ROWS == TAHVENNO_MAX_ROWS && MOST_LOG2SIZE == TAHVENNO_MAX_LOG2SIZE, "the header has other limits");
 
 /* At how many places a run at the limits is cut. */
@@ -28,6 +29,7 @@ static struct {
     uint64_t made_pending, left_pending, raised_pending;
     uint64_t fills, cut_fills, same_words, same_controls, refused[CALLS], done[CALLS];
     uint64_t upper_fills, upper_removed, doubled;
+    uint64_t records, cut_records, same_records, flips, cut_flips, drops;
 } seen;
 
 static void fail(const char *what, ...) {
@@ -289,7 +291,7 @@ static void check_others(struct dice *dice, int rounds) {
     struct outcome outcome;
     uint64_t plain[ROOM];
     for (int i = 0; i < rounds; i++) {
-        enum which which = (enum which)(i % CALLS);
+        enum which which = (enum which)(i % EVENT_WRITE);
         any_input(dice, &input, LARGEST, 8);
         any_call(dice, &input, which, &call);
         if (below(dice, 3) == 0) damage(dice, &input);
@@ -303,6 +305,84 @@ static void check_others(struct dice *dice, int rounds) {
         seen.doubled += outcome.returned == 11;
         seen.done[which] += outcome.returned == 0;
         seen.same_controls += stores && store.value == input.kept[0];
+    }
+}
+
+/* The stores that a write of the record has to make: its words, then WR moves; or the flag of a full ring flips, if no overflow is
+ * outstanding (document 02, T-01). */
+static size_t record_stores(const struct input *input, struct store expected[RECORD_STORES]) {
+    uint64_t index = input->kept[0], slots = (input->words - 1) / 4, rd = index & RD_BITS, wr = index >> WR_SHIFT & RD_BITS;
+    size_t slot = 1 + 4 * (wr % slots);
+    if ((rd ^ wr) == slots) {
+        expected[0] = (struct store){0, index ^ OVERFLOW_FLAG};
+        return ((index & SEEN_FLAG) >> 1) == (index & OVERFLOW_FLAG);
+    }
+    for (size_t i = 0; i < 4; i++) {
+        expected[i] = (struct store){slot + i, 0};
+        for (size_t byte = 8; byte-- > 0;) expected[i].value = expected[i].value << 8 | input->queue[8 * i + byte];
+    }
+    expected[4] = (struct store){0, (index & ~(RD_BITS << WR_SHIFT)) | (wr + 1) % (2 * slots) << WR_SHIFT};
+    return RECORD_STORES;
+}
+
+/* A write at each allowance, into a slot that holds some of the record's words already. */
+static void check_record(struct dice *dice, struct input *input) {
+    static const uint64_t allowances[] = {0, 1, 2, 3, 4, 5, 6, UINT64_MAX};
+    struct store expected[RECORD_STORES];
+    struct call call = {.which = EVENT_WRITE};
+    size_t due = record_stores(input, expected);
+    uint64_t same = below(dice, 16);
+    for (size_t i = 0; i < 4 && due == RECORD_STORES; i++)
+        if (same >> i & 1) input->kept[expected[i].word] = expected[i].value;
+    for (size_t i = 0; i < sizeof allowances / sizeof allowances[0]; i++) {
+        call.allowance = allowances[i];
+        size_t count = call.allowance < due ? call.allowance : due;
+        check_call(input, &call, expected, count);
+        for (size_t store = 0; store < count && store < 4 && due == RECORD_STORES; store++) seen.same_records += same >> store & 1;
+        seen.records += due == RECORD_STORES && count == due;
+        seen.cut_records += due == RECORD_STORES && count < due;
+        seen.flips += due == 1 && count == 1;
+        seen.cut_flips += due == 1 && count == 0;
+        seen.drops += due == 0;
+    }
+    seen.done[EVENT_WRITE]++;
+}
+
+/* The index word that reading and acknowledging have to store. */
+static uint64_t index_after(enum which which, const struct input *input) {
+    uint64_t index = input->kept[0], ring = 2 * ((input->words - 1) / 4);
+    if (which == EVENT_READ) return (index & ~RD_BITS) | ((index & RD_BITS) + 1) % ring;
+    return (index & ~SEEN_FLAG) | (index & OVERFLOW_FLAG) << 1;
+}
+
+/* A call of the recorder that stores the index word, or nothing if it is refused. */
+static void check_event(const struct input *input, const struct call *call) {
+    struct outcome outcome;
+    uint64_t plain[ROOM];
+    memcpy(plain, input->kept, sizeof plain);
+    make_call(call, input, plain, input->queue, &outcome);
+    if (call->which == EVENT_WRITE && !outcome.returned) return;
+    struct store store = {0, outcome.returned ? 0 : index_after(call->which, input)};
+    check_call(input, call, &store, !outcome.returned);
+    seen.refused[call->which] += outcome.returned != 0;
+    seen.done[call->which] += outcome.returned == 0;
+}
+
+/* Rings of every size, with none, one, nearly all and all slots in use, and every value of the flags; then damaged ones. */
+static void check_events(struct dice *dice, int rounds) {
+    static struct input input;
+    struct call call;
+    for (uint64_t i = 0; i < 128 * (uint64_t)rounds; i++) {
+        uint64_t n = i % 8, slots = UINT64_C(1) << n, held[] = {0, 1, slots - 1, slots}, rd = below(dice, 2 * slots);
+        ring_input(dice, &input, n, rd, held[i / 8 % 4], i / 32 % 4);
+        check_record(dice, &input);
+        for (enum which which = EVENT_READ; which < CALLS; which++) check_event(&input, &(struct call){.which = which});
+    }
+    for (int i = 0; i < 200 * rounds; i++) {
+        any_ring(dice, &input);
+        damage_ring(dice, &input);
+        any_event(dice, EVENT_WRITE + (enum which)(i % (CALLS - EVENT_WRITE)), &call);
+        check_event(&input, &call);
     }
 }
 
@@ -325,17 +405,22 @@ static void report(void) {
         printf("%" PRIu64 " refused\n", seen.refused[which]);
     }
     printf("stores: %" PRIu64 " control calls stored what was there already\n", seen.same_controls);
+    printf("stores: %" PRIu64 " records stored, %" PRIu64 " cut, with %" PRIu64 " words that were there already; %" PRIu64
+           " dropped with a flip, %" PRIu64 " cut before it, %" PRIu64 " dropped without\n",
+           seen.records, seen.cut_records, seen.same_records, seen.flips, seen.cut_flips, seen.drops);
     const uint64_t *counts = (const uint64_t *)&seen;
     for (size_t i = 0; i < sizeof seen / sizeof *counts; i++)
         if (counts[i] == 0) fail("a kind of store or end never came up: counter %zu", i);
 }
 
 int main(int argc, char **argv) {
-    struct dice dice;
+    struct dice dice, own;
     int rounds = argc > 2 ? atoi(argv[2]) : 8;
     if (argc > 1) seed = strtoull(argv[1], NULL, 0);
     dice.state = seed;
+    own.state = ~seed; /* so that the other inputs stay as they were without the recorder */
     watch_start();
+    check_events(&own, rounds);
     check_fills(&dice, rounds);
     check_others(&dice, 2000 * rounds);
     check_runs(&dice, rounds, 80 * rounds);

@@ -36,7 +36,8 @@ static void in_halves(uint64_t *kept, size_t at, uint64_t value) {
 static void both(uint64_t *kept, size_t at, uint64_t low, uint64_t high) {
     pair value = {low, high};
 #ifdef __aarch64__
-    if (fault("fill-paired")) __asm__ volatile("stp %0, %1, [%2]" : : "r"(low), "r"(high), "r"(&kept[at]) : "memory");
+    if (fault("fill-paired") || fault("event-paired"))
+        __asm__ volatile("stp %0, %1, [%2]" : : "r"(low), "r"(high), "r"(&kept[at]) : "memory");
     else __asm__ volatile("str %q0, [%1]" : : "w"(value), "r"(&kept[at]) : "memory");
 #else
     *(volatile pair *)(void *)&kept[at] = value;
@@ -232,4 +233,97 @@ uint64_t __real_tahvenno_state(const uint64_t *, size_t, uint64_t *);
 uint64_t __wrap_tahvenno_state(const uint64_t *kept, size_t words, uint64_t answer[8]) {
     if (fault("state-stores") && words) store((uint64_t *)(uintptr_t)kept, words - 1, kept[words - 1]);
     return __real_tahvenno_state(kept, words, answer);
+}
+
+static void narrow(uint64_t *events, uint64_t value) {
+    *(volatile uint32_t *)(void *)events = (uint32_t)value;
+}
+
+/* The index word, which is the last store: WR is in its lower half, which a compiler might store alone. */
+static void store_index(uint64_t *events, uint64_t value) {
+    if (fault("event-narrow")) narrow(events, value);
+    else if (fault("event-in-halves")) in_halves(events, 0, value);
+    else store(events, 0, value);
+    if (fault("event-doubled")) store(events, 0, value);
+}
+
+/* The first stores of a record, as many as are due: `whole` is the recorder after all of them, and `at` the slot. */
+static void store_record(uint64_t *events, const uint64_t *whole, size_t at, uint64_t count) {
+    static const size_t right[5] = {0, 1, 2, 3, 4}, swapped[5] = {1, 0, 2, 3, 4};
+    static const size_t first[5] = {4, 0, 1, 2, 3}, early[5] = {0, 1, 2, 4, 3};
+    const size_t *order = fault("event-index-first")   ? first
+                          : fault("event-index-early") ? early
+                          : fault("event-swapped")     ? swapped
+                                                       : right;
+    uint64_t from = 0;
+    if ((fault("event-merged") || fault("event-paired")) && count > 1) both(events, at, whole[at], whole[at + 1]), from = 2;
+    if (fault("event-resumed"))
+        while (from < 4 && events[at + from] == whole[at + from]) from++;
+    if (fault("event-ahead") && count < 4) count++;
+    for (uint64_t i = from; i < count; i++) {
+        size_t word = order[i] < 4 ? at + order[i] : 0;
+        if (fault("event-sparing") && word && events[word] == whole[word]) continue;
+        if (fault("event-fifth") && i == 4) store(events, at + 3, whole[at + 3]);
+        if (word) store(events, word, whole[word]);
+        else store_index(events, whole[0]);
+    }
+}
+
+/* The flags are in one byte, which a compiler might store alone. */
+static void store_flags(uint64_t *events, uint64_t value) {
+    if (fault("event-flip-byte")) ((volatile uint8_t *)events)[5] = (uint8_t)(value >> 40);
+    else store(events, 0, value);
+    if (fault("event-flip-doubled")) store(events, 0, value);
+}
+
+static uint64_t event_refused(uint64_t *events, size_t words, uint64_t returned) {
+    if (fault("event-refused") && words) store(events, 0, events[0]);
+    return returned;
+}
+
+uint64_t __real_tahvenno_event_write(uint64_t *, size_t, const uint8_t *, uint64_t, uint64_t *);
+uint64_t __wrap_tahvenno_event_write(uint64_t *events, size_t words, const uint8_t record[32], uint64_t allowance,
+                                     uint64_t answer[8]) {
+    static uint64_t copy[ROOM];
+    uint64_t told[8];
+    memcpy(copy, events, 8 * words);
+    uint64_t returned = __real_tahvenno_event_write(copy, words, record, allowance, answer);
+    if (returned) return event_refused(events, words, returned);
+    memcpy(copy, events, 8 * words);
+    __real_tahvenno_event_write(copy, words, record, UINT64_MAX, told);
+    if (fault("event-record")) *(volatile uint8_t *)(uintptr_t)record = *record;
+    if (told[0] == TAHVENNO_EVENT_STORED) {
+        store_record(events, copy, 1 + 4 * ((events[0] >> WR_SHIFT & RD_BITS) % ((words - 1) / 4)), answer[1]);
+    } else if (answer[1] || fault("event-flip-none")) {
+        store_flags(events, copy[0]);
+    } else if (fault("event-dropped")) {
+        store(events, 0, events[0]);
+    }
+    return 0;
+}
+
+uint64_t __real_tahvenno_event_read(uint64_t *, size_t, uint64_t *);
+uint64_t __wrap_tahvenno_event_read(uint64_t *events, size_t words, uint64_t answer[8]) {
+    static uint64_t copy[ROOM];
+    memcpy(copy, events, 8 * words);
+    uint64_t returned = __real_tahvenno_event_read(copy, words, answer);
+    if (returned) return event_refused(events, words, returned);
+    size_t at = 1 + 4 * ((events[0] & RD_BITS) % ((words - 1) / 4));
+    if (fault("event-read-clears")) store(events, at, 0);
+    if (fault("event-read-narrow")) narrow(events, copy[0]);
+    else store(events, 0, copy[0]);
+    if (fault("event-read-doubled")) store(events, 0, copy[0]);
+    return 0;
+}
+
+uint64_t __real_tahvenno_event_acknowledge(uint64_t *, size_t, uint64_t *);
+uint64_t __wrap_tahvenno_event_acknowledge(uint64_t *events, size_t words, uint64_t answer[8]) {
+    static uint64_t copy[ROOM];
+    memcpy(copy, events, 8 * words);
+    uint64_t returned = __real_tahvenno_event_acknowledge(copy, words, answer);
+    if (returned) return event_refused(events, words, returned);
+    if (fault("event-seen-byte")) ((volatile uint8_t *)events)[5] = (uint8_t)(copy[0] >> 40);
+    else store(events, 0, copy[0]);
+    if (fault("event-seen-doubled")) store(events, 0, copy[0]);
+    return 0;
 }

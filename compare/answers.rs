@@ -1,8 +1,9 @@
 //! What the model takes and says, in the numbers of the C interface.
 
-use crate::call::{Asked, Reply, CUT, RAISED};
+use crate::call::{Asked, Reply, CUT, DROPPED, RAISED, STORED, WRITE_CUT};
 use crate::model::attributes::Attributes;
 use crate::model::control::Control;
+use crate::model::events::{self, Written};
 use crate::model::fill::Filled;
 use crate::model::refusal::Refusal;
 use crate::model::run::{End, Report};
@@ -53,6 +54,15 @@ pub fn ran(report: Report) -> [u64; 8] {
 
 pub fn filled(filled: Filled) -> [u64; 8] {
     answer(&[u64::from(!filled.whole), filled.stores])
+}
+
+pub fn written(written: Written) -> [u64; 8] {
+    let end = match written.end {
+        events::End::Stored => STORED,
+        events::End::Dropped => DROPPED,
+        events::End::Cut => WRITE_CUT,
+    };
+    answer(&[end, written.stores])
 }
 
 pub fn standing((control, used): (Control, u64)) -> [u64; 8] {

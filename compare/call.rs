@@ -22,6 +22,12 @@ pub enum Call<'a> {
     Translate(Asked),
     State,
     ClearPending,
+    EventWrite {
+        record: &'a [u8; 32],
+        allowance: u64,
+    },
+    EventRead,
+    EventAcknowledge,
 }
 
 /// A transaction as the C interface takes it.
@@ -37,7 +43,7 @@ pub struct Asked {
 }
 
 /// The names of the calls, in the order of `Call::index`.
-pub const NAMES: [&str; 8] = [
+pub const NAMES: [&str; 11] = [
     "run",
     "fill",
     "doorbell",
@@ -46,10 +52,17 @@ pub const NAMES: [&str; 8] = [
     "translate",
     "state",
     "clear_pending",
+    "event_write",
+    "event_read",
+    "event_acknowledge",
 ];
 
+/// The calls from here on are on the words of the event recorder, those before on
+/// the kept memory.
+pub const FIRST_EVENT: usize = 8;
+
 /// The numbers that each call is passed and their bits, in the order of the C
-/// interface; memory and queue aren't among them.
+/// interface; memory, queue and record aren't among them.
 pub const NUMBERS: [&[(&str, u32)]; NAMES.len()] = [
     &[("features", 64), ("allowance", 64)],
     &[
@@ -74,6 +87,9 @@ pub const NUMBERS: [&[(&str, u32)]; NAMES.len()] = [
     ],
     &[],
     &[],
+    &[("allowance", 64)],
+    &[],
+    &[],
 ];
 
 /// The returned number and the answer's words.
@@ -87,6 +103,11 @@ pub struct Reply {
 pub const RAISED: u64 = 3;
 pub const CUT: u64 = 4;
 
+/// The same of an event write.
+pub const STORED: u64 = 0;
+pub const DROPPED: u64 = 1;
+pub const WRITE_CUT: u64 = 2;
+
 impl Call<'_> {
     pub fn index(&self) -> usize {
         match self {
@@ -98,6 +119,9 @@ impl Call<'_> {
             Call::Translate(_) => 5,
             Call::State => 6,
             Call::ClearPending => 7,
+            Call::EventWrite { .. } => 8,
+            Call::EventRead => 9,
+            Call::EventAcknowledge => 10,
         }
     }
 
@@ -125,7 +149,9 @@ impl Call<'_> {
                 asked.sh,
                 asked.hints,
             ],
+            Call::EventWrite { allowance, .. } => vec![allowance],
             Call::Acknowledge | Call::State | Call::ClearPending => vec![],
+            Call::EventRead | Call::EventAcknowledge => vec![],
         }
     }
 
@@ -154,6 +180,9 @@ impl Call<'_> {
                     sh,
                     hints,
                 })
+            }
+            (Call::EventWrite { record, .. }, &[allowance]) => {
+                Call::EventWrite { record, allowance }
             }
             (call, &[]) => call,
             _ => panic!("a call of other numbers"),

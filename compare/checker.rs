@@ -49,7 +49,7 @@ impl Checker {
         let mut lent = Lent::new(kept, &mut self.garbage);
         let dirt: [u64; 8] = std::array::from_fn(|_| self.garbage.next());
         let mut answer = Lent::new(&dirt, &mut self.garbage);
-        let (number, queue_kept) = on_unit(call, &mut lent, &mut answer, &self.wrong);
+        let (number, bytes_kept) = on_unit(call, &mut lent, &mut answer, &self.wrong);
         watchdog::returned();
         let theirs = Reply {
             number,
@@ -63,7 +63,7 @@ impl Checker {
         if theirs != ours || lent.inner() != kept {
             stop(&scene, "unit and model differ");
         }
-        if !queue_kept || !lent.margins_kept() || !answer.margins_kept() {
+        if !bytes_kept || !lent.margins_kept() || !answer.margins_kept() {
             stop(&scene, "the unit stored outside the words lent for storing");
         }
         if let Some(law) = laws::broken(&before, call, ours, kept) {
@@ -107,8 +107,8 @@ impl Checker {
     }
 }
 
-/// The unit's number, and whether it left the queue alone. A run is lent a copy
-/// of the queue, for the model has to read it as it was.
+/// The unit's number, and whether it left the queue or the record alone. It is
+/// lent a copy of them, for the model has to read them as they were.
 fn on_unit(call: Call, kept: &mut Lent, answer: &mut Lent, wrong: &Option<Wrong>) -> (u64, bool) {
     let perform = |call, kept: &mut Lent, answer: &mut Lent| match wrong {
         None => unit::perform(call, kept, answer),
@@ -131,6 +131,14 @@ fn on_unit(call: Call, kept: &mut Lent, answer: &mut Lent, wrong: &Option<Wrong>
                 answer,
             );
             (number, copy == queue)
+        }
+        Call::EventWrite { record, allowance } => {
+            let copy = *record;
+            let lent = Call::EventWrite {
+                record: &copy,
+                allowance,
+            };
+            (perform(lent, kept, answer), copy == *record)
         }
         _ => (perform(call, kept, answer), true),
     }

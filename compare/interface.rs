@@ -38,4 +38,13 @@ extern "C" {
         answer: *mut u64,
     ) -> u64;
     pub fn tahvenno_state(kept: *const u64, words: usize, answer: *mut u64) -> u64;
+    pub fn tahvenno_event_write(
+        events: *mut u64,
+        words: usize,
+        record: *const u8,
+        allowance: u64,
+        answer: *mut u64,
+    ) -> u64;
+    pub fn tahvenno_event_read(events: *mut u64, words: usize, answer: *mut u64) -> u64;
+    pub fn tahvenno_event_acknowledge(events: *mut u64, words: usize, answer: *mut u64) -> u64;
 }

@@ -1,7 +1,9 @@
 //! What the paper says of every call, whoever makes it. Unit and model agree
 //! before a law is asked, so that a broken one is mostly the model's fault.
 
-use crate::call::{Call, Reply, CUT, RAISED};
+mod events;
+
+use crate::call::{Call, Reply, CUT, FIRST_EVENT, RAISED};
 use crate::model::control::Control;
 use crate::model::image::used_rows;
 
@@ -11,6 +13,7 @@ pub fn broken(before: &[u64], call: Call, reply: Reply, after: &[u64]) -> Option
         return (before != after).then_some("a refusal stored something");
     }
     match call {
+        _ if call.index() >= FIRST_EVENT => events::broken(before, call, reply, after),
         Call::Run {
             queue, allowance, ..
         } => run(before, queue, allowance, reply, after),

@@ -30,3 +30,11 @@ pub const fn words(rows: u64) -> usize {
 pub const fn bytes(log2size: u64) -> usize {
     16 << log2size
 }
+
+/// The largest n of an event recorder (T-01).
+pub const EVENTS: u64 = 7;
+
+/// The words of a recorder with 2^n slots.
+pub const fn event_words(n: u64) -> usize {
+    1 + (4 << n)
+}

@@ -1,10 +1,11 @@
 //! The model behind the C interface, watched by the tally.
 
-use crate::answers::{answer, filled, ran, reply, standing, transaction, translated};
-use crate::call::{Asked, Call, Reply};
+use crate::answers::{answer, filled, ran, reply, standing, transaction, translated, written};
+use crate::call::{Asked, Call, Reply, FIRST_EVENT};
 use crate::model::command::Features;
 use crate::model::control::Control;
 use crate::model::control_calls::{acknowledge, clear_pending, doorbell, enable};
+use crate::model::events;
 use crate::model::fill::fill;
 use crate::model::refusal::Refusal;
 use crate::model::run::{run, Report};
@@ -32,13 +33,22 @@ pub fn perform(call: Call, kept: &mut [u64], tally: &mut Tally) -> Reply {
         Call::Translate(asked) => outcome(kept, asked, tally).map(translated),
         Call::State => state(kept).map(standing),
         Call::ClearPending => clear_pending(kept).map(|()| answer(&[])),
+        Call::EventWrite { record, allowance } => recorded(kept, record, allowance),
+        Call::EventRead => events::read(kept).map(|record| answer(&record)),
+        Call::EventAcknowledge => events::acknowledge(kept).map(|()| answer(&[])),
     };
     let reply = reply(result);
     tally.count(&call, &reply);
-    if reply.number == 0 {
-        tally.pending.count(&call, &reply, (before, kept[0]));
+    match call.index() < FIRST_EVENT {
+        _ if reply.number != 0 => (),
+        true => tally.pending.count(&call, &reply, (before, kept[0])),
+        false => tally.events.count(&call, &reply, before),
     }
     reply
+}
+
+fn recorded(kept: &mut [u64], record: &[u8; 32], allowance: u64) -> Result<[u64; 8], Refusal> {
+    events::write(kept, record, allowance).map(written)
 }
 
 fn ended(

@@ -61,7 +61,11 @@ fn print_call(call: &Call) {
         Call::Doorbell { wr } => println!(" wr {wr:#x}"),
         Call::Enable { on } => println!(" on {on:#x}"),
         Call::Translate(asked) => println!(" {asked:#x?}"),
+        Call::EventWrite { record, allowance } => {
+            println!(" record {record:02x?} allowance {allowance:#x}");
+        }
         Call::Acknowledge | Call::State | Call::ClearPending => println!(),
+        Call::EventRead | Call::EventAcknowledge => println!(),
     }
 }
 
@@ -72,10 +76,10 @@ fn little_endian(bytes: &[u8]) -> u64 {
         .fold(0, |word, &byte| word << 8 | u64::from(byte))
 }
 
-/// The control word on a line of its own, then a row to each line.
+/// The control or index word on a line of its own, then a row or slot to each.
 fn print_memory(kept: &[u64]) {
     let (control, rows) = kept.split_at(kept.len().min(1));
-    println!("kept memory before the call, {} words:", kept.len());
+    println!("memory before the call, {} words:", kept.len());
     print_lines(control, 1);
     print_lines(rows, 4);
 }

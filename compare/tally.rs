@@ -2,12 +2,14 @@
 
 mod commands;
 mod doubles;
+mod events;
 mod pending;
 mod upper;
 
-use crate::call::{Call, Reply, NAMES};
+use crate::call::{Call, Reply, FIRST_EVENT, NAMES};
 use commands::Commands;
 use doubles::Doubles;
+use events::Events;
 use pending::Pending;
 use upper::Upper;
 
@@ -22,8 +24,10 @@ const OUTCOMES: [&str; 6] = [
     "Miss stage 2",
 ];
 const CONFIGS: [usize; 5] = [0, 4, 5, 6, 7];
-/// The refusals that there are.
-const REFUSALS: [usize; 12] = [1, 2, 3, 4, 5, 6, 7, 8, 9, 10, 11, 12];
+/// The refusals that there are. 13 and 14 are none today.
+const REFUSALS: [usize; 16] = [
+    1, 2, 3, 4, 5, 6, 7, 8, 9, 10, 11, 12, 15, 16, 17, 18,
+];
 const HIGHEST: usize = REFUSALS[REFUSALS.len() - 1];
 
 #[derive(Default)]
@@ -38,6 +42,7 @@ pub struct Tally {
     pub pending: Pending,
     pub upper: Upper,
     pub doubles: Doubles,
+    pub events: Events,
     configs: [u64; 8],
     config_hits: [u64; 8],
 }
@@ -82,12 +87,13 @@ impl Tally {
         self.pending.print(&mut table);
         self.upper.print(&mut table);
         self.doubles.print(&mut table);
+        self.events.print(&mut table);
         table.missing
     }
 
     fn print_calls(&self, table: &mut Table) {
         print!(
-            "Calls compared: {}\n  {:<14}{:>9}",
+            "Calls compared: {}\n  {:<18}{:>9}",
             self.compared, "", "calls"
         );
         for number in REFUSALS {
@@ -95,7 +101,7 @@ impl Tally {
         }
         println!();
         for (call, name) in NAMES.iter().enumerate() {
-            print!("  {name:<14}{}", table.cell(self.calls[call], true));
+            print!("  {name:<18}{}", table.cell(self.calls[call], true));
             for number in REFUSALS {
                 print!(
                     "{}",
@@ -119,13 +125,16 @@ impl Tally {
 /// Whether a call can give a refusal at all.
 fn refusable(call: usize, number: usize) -> bool {
     match number {
-        1..=3 => true,
+        1..=3 => call < FIRST_EVENT,
         4 => NAMES[call] == "run",
         5 => NAMES[call] == "doorbell",
         6 => NAMES[call] == "acknowledge",
         7..=9 | 11 => NAMES[call] == "fill",
         10 => NAMES[call] == "translate",
-        _ => NAMES[call] == "clear_pending",
+        12 => NAMES[call] == "clear_pending",
+        17 => NAMES[call] == "event_read",
+        18 => NAMES[call] == "event_acknowledge",
+        _ => call >= FIRST_EVENT,
     }
 }
 

@@ -32,6 +32,11 @@ pub fn perform(call: Call, kept: &mut Lent, answer: &mut Lent) -> u64 {
             Call::Translate(asked) => translate(memory, words, asked, answer),
             Call::State => tahvenno_state(memory, words, answer),
             Call::ClearPending => tahvenno_clear_pending(memory, words, answer),
+            Call::EventWrite { record, allowance } => {
+                tahvenno_event_write(memory, words, record.as_ptr(), allowance, answer)
+            }
+            Call::EventRead => tahvenno_event_read(memory, words, answer),
+            Call::EventAcknowledge => tahvenno_event_acknowledge(memory, words, answer),
         }
     }
 }

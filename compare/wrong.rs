@@ -2,11 +2,12 @@
 //! catch each of them, and the gate sees to it.
 
 mod doubles;
+mod events;
 mod pending;
 mod reasons;
 mod upper;
 
-use crate::call::{Call, NAMES, NUMBERS};
+use crate::call::{Call, FIRST_EVENT, NAMES, NUMBERS};
 use crate::generate::random::Random;
 use crate::lent::Lent;
 use crate::limits::{words, ROWS, SLOTS};
@@ -42,6 +43,8 @@ enum Fault {
     Upper(upper::Fault),
     /// Other fills double a row.
     Doubles(doubles::Fault),
+    /// The event recorder does something else.
+    Events(events::Fault),
 }
 
 pub struct Wrong {
@@ -78,7 +81,7 @@ pub fn all() -> Vec<Wrong> {
         let fault = Fault::Short(call, number, word, limit);
         add(format!("{what} below {limit}"), fault);
     }
-    for (call, name) in NAMES.iter().enumerate() {
+    for (call, name) in NAMES[..FIRST_EVENT].iter().enumerate() {
         let what = format!("{name}: the last row ill formed");
         add(what, Fault::Unchecked(call));
     }
@@ -98,6 +101,9 @@ pub fn all() -> Vec<Wrong> {
     }
     for (name, fault) in doubles::all() {
         add(name, Fault::Doubles(fault));
+    }
+    for (name, fault) in events::all() {
+        add(name, Fault::Events(fault));
     }
     all
 }
@@ -210,14 +216,14 @@ impl Wrong {
         let last = words(ROWS - 1);
         let row = answer.inner()[0];
         match self.fault {
-            Fault::Pending(fault) => {
+            Fault::Pending(_) | Fault::Events(_) => {
                 let around = Around {
                     before,
                     number,
                     kept,
                     answer,
                 };
-                return fault.spoil(call, around);
+                return self.spoil(call, around);
             }
             Fault::Mistold(fault) if number == 0 => {
                 let controls = (before[0], kept.inner()[0]);
@@ -239,6 +245,15 @@ impl Wrong {
             _ => (),
         }
         number
+    }
+
+    /// The same for the faults that a request of document 02 has.
+    fn spoil(&self, call: Call, around: Around) -> u64 {
+        match self.fault {
+            Fault::Pending(fault) => fault.spoil(call, around),
+            Fault::Events(fault) => fault.spoil(call, around),
+            _ => around.number,
+        }
     }
 }
 

@@ -4,21 +4,27 @@ extern "C" {
     fn tahvenno_doorbell(kept: *mut u64, words: usize, wr: u64, answer: *mut u64) -> u64;
     fn tahvenno_run(kept: *mut u64, words: usize, queue: *const u8, bytes: usize, features: u64, allowance: u64, answer: *mut u64) -> u64;
     fn tahvenno_clear_pending(kept: *mut u64, words: usize, answer: *mut u64) -> u64;
+    fn tahvenno_event_write(events: *mut u64, words: usize, record: *const u8, allowance: u64, answer: *mut u64) -> u64;
+    fn tahvenno_event_read(events: *mut u64, words: usize, answer: *mut u64) -> u64;
     fn tahvenno_translate(kept: *const u64, words: usize, stream: u32, substream: u32, address: u64, how: u64, memattr: u64, sh: u64, hints: u64, answer: *mut u64) -> u64;
 }
 
 const ROW_WORDS: usize = 4;
 const SLOT_BYTES: usize = 16;
 const ANSWER_WORDS: usize = 8;
+const RECORD_BYTES: usize = 32;
+const RECORD_STORES: u64 = 5;
 const S1P: u64 = 1 << 0;
 const S2P: u64 = 1 << 1;
 const CUT: u64 = 4;
+const ADDRESS: u64 = 0;
 const WRITE: u64 = 1 << 0;
 
-// The lowest bits of the parts of the control word and of a row's words 0 and 1.
+// The lowest bits of the parts of the control word, of the recorder's index word and of a row's words 0 and 1.
 const CMDQEN: u32 = 49;
 const LOG2SIZE: u32 = 50;
 const PENDING: u32 = 55;
+const EVENT_N: u32 = 42;
 const VALID: u32 = 0;
 const KIND: u32 = 1;
 const LAST_LEVEL: u32 = 3;
@@ -39,7 +45,10 @@ const ISH: u64 = 3;
 const CMD_TLBI_NSNH_ALL: u8 = 0x30; // the guest's command: remove every stage 1 and stage 2 row
 const CMD_SYNC: u8 = 0x46;
 const CS_1: u8 = 0x10; // in its second byte: interrupt the guest when it is done
+const F_TRANSLATION: u8 = 0x10; // the event's first byte; its fifth to eighth are the stream
 const WORDS: usize = 1 + 2 * ROW_WORDS;
+const N: u32 = 2;
+const EVENT_WORDS: usize = 1 + (4 << N);
 const FILL_STORES: u64 = ROW_WORDS as u64;
 const STREAM_ID: u32 = 5;
 const SUBSTREAM_ID: u32 = 0;
@@ -60,7 +69,11 @@ fn main() {
     let ste = 1 << VALID | STE << KIND | 1 << LAST_LEVEL;
     let ste_1 = u64::from(STREAM_ID) << STREAM | CONFIG_STAGE2 << CONFIG;
     let page = 1 << VALID | STAGE2 << KIND | 1 << LAST_LEVEL | PAGE << SPAN | WRITE_BACK << MEMATTR | ISH << SH;
-    let (k, a) = (kept.as_mut_ptr(), answer.as_mut_ptr());
+    let (mut events, mut record) = ([0u64; EVENT_WORDS], [0u8; RECORD_BYTES]);
+    events[0] = u64::from(N) << EVENT_N; // an empty recorder of four slots
+    record[0] = F_TRANSLATION;
+    record[4..8].copy_from_slice(&STREAM_ID.to_le_bytes());
+    let (k, e, a) = (kept.as_mut_ptr(), events.as_mut_ptr(), answer.as_mut_ptr());
     unsafe {
         assert_eq!(tahvenno_fill(k, WORDS, 0, ste, ste_1, 0, 0, FILL_STORES, a), 0);
         assert_eq!(tahvenno_fill(k, WORDS, 1, page, 0, FROM, TO, FILL_STORES, a), 0);
@@ -76,5 +89,10 @@ fn main() {
         }
         assert_eq!(ask(k, a), 0);
         println!("after: outcome {}", *a);
+        if *a != ADDRESS {
+            assert_eq!(tahvenno_event_write(e, EVENT_WORDS, record.as_ptr(), RECORD_STORES, a), 0);
+        }
+        assert_eq!(tahvenno_event_read(e, EVENT_WORDS, a), 0);
+        println!("event: {:x}", *a);
     }
 }

@@ -1,22 +1,25 @@
 /*
- * Tahvenno: the command queue, the cached rows and the translation of an emulated Arm SMMUv3.
+ * Tahvenno: the command queue, the cached rows and the translation of an emulated Arm SMMUv3, and a recorder of its events.
  *
  * MEMORY. The caller owns everything. `kept` points to the kept memory, `words` 64-bit words: one control word, then rows of
  * four words, 1 to TAHVENNO_MAX_ROWS of them; their layout is below. `queue` points to the guest's command queue, `bytes` bytes
- * of 16 a slot. `answer` points to eight words that the call fills, those not named below with zero. The unit keeps no pointer
+ * of 16 a slot. `events` points to the recorder's words, which are no part of the kept memory, and `record` to 32 bytes (THE
+ * RECORDER, below). `answer` points to eight words that the call fills, those not named below with zero. The unit keeps no pointer
  * and no state of its own between calls, allocates nothing, and needs no function of a C library.
  *
  * The caller sees to this, since the proof takes it for granted:
  *
- *   - No pointer is null, also where a length is 0. kept, queue and answer do not overlap.
- *   - kept and answer are aligned to 8 bytes. The queue may stand anywhere in Normal memory; where a load that is not aligned
- *     faults (Device memory, alignment checking), align it to 8 bytes too: compiled code loads several of its bytes at once.
+ *   - No pointer is null, also where a length is 0. What is lent to one call does not overlap.
+ *   - kept, events and answer are aligned to 8 bytes. The queue and a record may stand anywhere in Normal memory; where a load that
+ *     is not aligned faults (Device memory, alignment checking), align them to 8 bytes too: compiled code loads several of their
+ *     bytes at once.
  *   - Until a call returns nobody else writes to what is lent to it. So lend a private copy of the guest's queue, or stop the
  *     guest: bytes that change during a call are outside the proof.
- *   - One call at a time on one kept memory. docs/BOX.md has the rules for an agent that reads rows by itself.
+ *   - One call at a time on one kept memory, and on one recorder. docs/BOX.md has the rules for an agent that reads rows or
+ *     records by itself.
  *
  * WHAT COMES BACK. Each call returns 0 if it was carried out, else the number of its refusal, and then not one word of kept
- * memory has changed. Whatever the words and bytes are, a call ends and gives one of these:
+ * memory or of the recorder has changed. Whatever the words and bytes are, a call ends and gives one of these:
  *
  *    1  the length is not 1 + 4 N words, N from 1 to TAHVENNO_MAX_ROWS
  *    2  the control word is ill formed
@@ -30,14 +33,20 @@
  *   10  translate: MemAttr, SH or hints are ill formed or too wide
  *   11  fill: the new row and one that is there could answer the same access
  *   12  clear_pending: no interrupt is pending
+ *   15  event_write, event_read, event_acknowledge: the length is not 1 + 4 x 2^n words, n from 0 to TAHVENNO_MAX_EVENT_N
+ *   16  the same three: the index word is ill formed, or its n is not that of the length
+ *   17  event_read: no record waits
+ *   18  event_acknowledge: no overflow is outstanding
  *
- * 1, 2 and 3 are tried first, by every call, then the others in this order.
+ * 1, 2 and 3 are tried first, by every call on kept memory, then the others in this order. The calls on the recorder give 15 to 18
+ * only, in this order.
  *
  * ALLOWANCES. A run and a fill store single 64-bit words, in an order that does not depend on the allowance, and make at most
  * `allowance` of them: a call with allowance k leaves what a power cut after its k-th store leaves. A fill makes 4 stores; a run
  * makes one for each row that it removes and each command that it consumes, and one if it raises, so never more than there are
  * used rows and waiting commands (TAHVENNO_MAX_STORES at most). An allowance of 0 makes no store: where one is due the call ends
- * Cut, and called so again it never gets further. The other calls store one word or none.
+ * Cut, and called so again it never gets further. An event_write has an allowance in the same sense. The other calls store one
+ * word or none.
  *
  * A run that ended Cut goes on when it is called again. A fill does not: it starts from its first store every time, and until
  * its last store the row is empty. Repeated after it has finished, a fill is refused with 8, an acknowledge with 6 and a
@@ -64,6 +73,19 @@
  * restart: each request is answered by at least one interrupt, and none is lost. tahvenno_state does not tell PENDING; it is read
  * in kept[0].
  *
+ * THE RECORDER is a ring of records of 32 bytes, in words of its own; no call takes both these and the kept memory. event_write
+ * makes 5 stores: the record's four words, the first one first, to the slot at WR, then the index word with WR one further. Until
+ * that last store the record is not in the ring, whatever its slot holds; with it the whole record is. So no cut shows a part of it.
+ * Each call starts from its first store: where there is room, an allowance below 5 ends Cut however often it is given.
+ *
+ * If every slot holds a record that nobody has read, the new one is dropped: the call returns 0 and ends TAHVENNO_EVENT_DROPPED.
+ * The first one dropped flips OVERFLOW, by one store; at allowance 0 it ends Cut instead. From then on, until event_acknowledge, an
+ * overflow is outstanding and further drops store nothing. An overflow does not keep records out: each read makes room for one.
+ *
+ * event_read takes the oldest record out of the ring, and event_acknowledge ends the overflow. Each is one store of the index word.
+ * Repeated after it has finished, an event_write stores its record once more or drops it, an event_read takes the next one out or
+ * is refused with 17, and an event_acknowledge is refused with 18.
+ *
  * AFTER A RESTART, in this order:
  *
  *   1. Look at RD, ERR and active by tahvenno_state, and tell the guest what it was not told.
@@ -72,6 +94,9 @@
  *      cut.
  *   4. If PENDING is set, raise the interrupt, then call clear_pending; no run comes between the two.
  *   5. Walk the guest's tables again for what is missing, and fill.
+ *
+ * The recorder needs none of this. A write that power cut is made again or given up; made again it may be there twice, since the
+ * cut may have come after its last store. docs/BOX.md says more.
  *
  * To 1: a call that power cut returned nothing, and its counts are lost. The counts of calls that return, cut by their
  * allowance, add up to those of a run that was never cut; those of the call that power cut are in no sum. So, before the first
@@ -111,6 +136,12 @@ extern "C" {
 #define TAHVENNO_QUEUE_BYTES(log2size) ((size_t)TAHVENNO_SLOT_BYTES << (log2size))
 #define TAHVENNO_ANSWER_WORDS 8
 
+/* Of the recorder in words, of a record in bytes; the stores of an event_write. */
+#define TAHVENNO_MAX_EVENT_N 7
+#define TAHVENNO_EVENT_WORDS(n) (1 + ((size_t)4 << (n)))
+#define TAHVENNO_RECORD_BYTES 32
+#define TAHVENNO_RECORD_STORES 5
+
 /* Bits high:low of a word; a number put there, without what is too wide; the number that is there. */
 #define TAHVENNO_BITS(high, low) ((UINT64_MAX >> (63 - (high))) & (UINT64_MAX << (low)))
 #define TAHVENNO_LOWEST(bits) ((bits) & (~(bits) + 1))
@@ -140,6 +171,22 @@ extern "C" {
 #define TAHVENNO_CMDQEN TAHVENNO_BITS(49, 49)
 #define TAHVENNO_LOG2SIZE TAHVENNO_BITS(54, 50)
 #define TAHVENNO_PENDING TAHVENNO_BITS(55, 55)
+
+/*
+ * The index word of the recorder, events[0]; behind it stand 2^N slots of four words. RD is the index of the oldest record, WR the
+ * one behind the newest; an index has N + 1 bits, as those of the queue have LOG2SIZE + 1. An overflow is outstanding if OVERFLOW
+ * differs from ACKNOWLEDGED (OVFLG in SMMU_EVENTQ_PROD and OVACKFLG in SMMU_EVENTQ_CONS are such a pair).
+ *
+ * Well formed: N at most TAHVENNO_MAX_EVENT_N, and the length TAHVENNO_EVENT_WORDS(N); both indexes below 2^(N + 1); WR less RD,
+ * modulo that, at most 2^N; bits 63:47 all 0. The flags may be 0 or 1 each, whatever the indexes are, and slots may hold anything.
+ *
+ * An empty recorder: TAHVENNO_PUT(TAHVENNO_EVENT_N, n), which is n << 42, in the index word. The slots need not be set.
+ */
+#define TAHVENNO_EVENT_RD TAHVENNO_BITS(19, 0)
+#define TAHVENNO_EVENT_WR TAHVENNO_BITS(39, 20)
+#define TAHVENNO_EVENT_OVERFLOW TAHVENNO_BITS(40, 40)
+#define TAHVENNO_EVENT_ACKNOWLEDGED TAHVENNO_BITS(41, 41)
+#define TAHVENNO_EVENT_N TAHVENNO_BITS(46, 42)
 
 /*
  * A row. It is empty if word 0 is 0, whatever the other words are. Else valid is 1, and every part not named here is 0:
@@ -236,6 +283,9 @@ enum {
 /* How a fill ends, in answer[0]. */
 enum { TAHVENNO_FILLED, TAHVENNO_FILL_CUT };
 
+/* How an event_write ends, in answer[0]. */
+enum { TAHVENNO_EVENT_STORED, TAHVENNO_EVENT_DROPPED, TAHVENNO_EVENT_CUT };
+
 /* Bits of `how`: the kind of a transaction. The others are not looked at. */
 #define TAHVENNO_WRITE UINT64_C(1)
 #define TAHVENNO_INSTRUCTION UINT64_C(2)
@@ -280,6 +330,15 @@ uint64_t tahvenno_translate(const uint64_t *kept, size_t words, uint32_t stream,
 
 /* answer: RD, WR, ERR, whether an error is active (0 or 1), whether the queue is enabled (0 or 1), used rows. */
 uint64_t tahvenno_state(const uint64_t *kept, size_t words, uint64_t answer[8]);
+
+/* Records an event: 32 bytes, which are four little-endian words. answer: the end, stores made. */
+uint64_t tahvenno_event_write(uint64_t *events, size_t words, const uint8_t record[32], uint64_t allowance, uint64_t answer[8]);
+
+/* Takes the oldest record out. answer: its four words. */
+uint64_t tahvenno_event_read(uint64_t *events, size_t words, uint64_t answer[8]);
+
+/* Someone knows that records were dropped: ACKNOWLEDGED becomes equal to OVERFLOW. */
+uint64_t tahvenno_event_acknowledge(uint64_t *events, size_t words, uint64_t answer[8]);
 
 #ifdef __cplusplus
 }

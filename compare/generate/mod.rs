@@ -3,6 +3,7 @@
 pub mod commands;
 pub mod damage;
 pub mod doubles;
+pub mod events;
 pub mod images;
 pub mod random;
 pub mod rows;

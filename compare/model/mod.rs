@@ -10,6 +10,7 @@ pub mod command;
 pub mod control;
 pub mod control_calls;
 pub mod doubles;
+pub mod events;
 pub mod fill;
 pub mod image;
 pub mod reason;

@@ -1,5 +1,5 @@
-//! The ways of saying no (document 01, When the unit says no; document 02, T-02 and
-//! T-08).
+//! The ways of saying no (document 01, When the unit says no; document 02, T-01,
+//! T-02 and T-08).
 
 #[derive(Clone, Copy, Debug, PartialEq, Eq)]
 pub enum Refusal {
@@ -16,6 +16,10 @@ pub enum Refusal {
     Attributes,
     Doubled,
     NotPending,
+    EventsLength,
+    EventsIndex,
+    NoEvent,
+    NoOverflow,
 }
 
 impl Refusal {
@@ -33,6 +37,10 @@ impl Refusal {
             Refusal::Attributes => 10,
             Refusal::Doubled => 11,
             Refusal::NotPending => 12,
+            Refusal::EventsLength => 15,
+            Refusal::EventsIndex => 16,
+            Refusal::NoEvent => 17,
+            Refusal::NoOverflow => 18,
         }
     }
 }

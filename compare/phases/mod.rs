@@ -6,6 +6,7 @@ pub mod commands;
 pub mod controls;
 pub mod cuts;
 pub mod doubles;
+pub mod events;
 pub mod formats;
 pub mod limits;
 pub mod pending;

@@ -1,7 +1,7 @@
 //! What became of the pending bit (document 02, T-08).
 
 use super::{Table, RUN_ENDS};
-use crate::call::{Call, Reply, NAMES};
+use crate::call::{Call, Reply, FIRST_EVENT, NAMES};
 use crate::model::words::bit;
 
 /// The bit was clear and stays so, is set, was set and stays so, is cleared.
@@ -9,7 +9,7 @@ const WAYS: [&str; 4] = ["clear", "set", "stays", "cleared"];
 
 #[derive(Default)]
 pub struct Pending {
-    calls: [[u64; WAYS.len()]; NAMES.len()],
+    calls: [[u64; WAYS.len()]; FIRST_EVENT],
     runs: [[u64; WAYS.len()]; RUN_ENDS.len()],
 }
 

@@ -1,7 +1,7 @@
 //! Wrong units that lose the pending bit, or make it up (document 02, T-08).
 
 use super::Around;
-use crate::call::{Call, CUT, NAMES, RAISED};
+use crate::call::{Call, CUT, FIRST_EVENT, NAMES, RAISED};
 use crate::generate::random::Random;
 use crate::lent::Lent;
 use crate::model::control::Control;
@@ -47,7 +47,7 @@ pub fn all() -> Vec<(String, Fault)> {
     for number in 1..=3 {
         all.push((format!("12 before {number}"), Fault::Before(number)));
     }
-    for (call, name) in NAMES.iter().enumerate() {
+    for (call, name) in NAMES[..FIRST_EVENT].iter().enumerate() {
         all.push((format!("{name}: bit 55 refused"), Fault::IllFormed(call)));
         let fault = Fault::WellFormed(call, 56);
         all.push((format!("{name}: bit 56 accepted"), fault));

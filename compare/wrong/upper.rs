@@ -1,6 +1,6 @@
 //! Wrong units that have another idea of the upper half (document 02, T-04).
 
-use crate::call::{Call, CUT, NAMES};
+use crate::call::{Call, CUT, FIRST_EVENT, NAMES};
 use crate::generate::random::Random;
 use crate::lent::Lent;
 use crate::limits::{ADDRESS, UPPER};
@@ -37,7 +37,7 @@ pub enum Fault {
 /// Every wrong unit with its name.
 pub fn all() -> Vec<(String, Fault)> {
     let mut all = Vec::new();
-    for (call, name) in NAMES.iter().enumerate() {
+    for (call, name) in NAMES[..FIRST_EVENT].iter().enumerate() {
         let fault = Fault::Refuses(call, upper);
         all.push((format!("{name}: an upper row refused"), fault));
         let fault = Fault::Takes(call, |row| lowered(row, 2, neither));

@@ -3,7 +3,8 @@ use crate::show;
 use attributes::Attributes;
 
 // c asks for the state; r runs with features and an allowance; f fills a row with four words under an allowance; d rings with a
-// WR; a acknowledges; p clears the pending bit; e enables or disables; t translates. A call that may store also tells every word afterwards.
+// WR; a acknowledges; p clears the pending bit; e enables or disables; t translates. Of a recorder w writes four words under an
+// allowance, o reads the oldest, x acknowledges. A call that may store also tells every word afterwards.
 pub fn call(verb: u8, w: [u64; 8], kept: &mut [u64], queue: &[u8]) {
     let mut answer = [0u64; 8];
     let code = made(verb, w, &mut *kept, queue, &mut answer);
@@ -23,8 +24,17 @@ fn made(verb: u8, w: [u64; 8], kept: &mut [u64], queue: &[u8], answer: &mut [u64
         b'a' => host::tahvenno_acknowledge(&mut *kept, &mut *answer),
         b'p' => host::tahvenno_clear_pending(&mut *kept, &mut *answer),
         b'e' => host::tahvenno_enable(&mut *kept, w[0], &mut *answer),
+        b'w' => written(&mut *kept, w, &mut *answer),
+        b'o' => host::tahvenno_event_read(&mut *kept, &mut *answer),
+        b'x' => host::tahvenno_event_acknowledge(&mut *kept, &mut *answer),
         _ => translated(&*kept, w, &mut *answer),
     }
+}
+
+fn written(events: &mut [u64], w: [u64; 8], answer: &mut [u64; 8]) -> u64 {
+    let mut bytes = [0u8; 32];
+    text::spread([32, 0, w[0], w[1], w[2], w[3], 0, 0], &mut bytes);
+    host::tahvenno_event_write(&mut *events, &bytes, w[4], &mut *answer)
 }
 
 // StreamID, SubstreamID, address, how, MemAttr, SH, hints. How: 1 write, 2 instruction, 4 privileged. C's StreamID and

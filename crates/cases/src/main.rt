@@ -1,4 +1,4 @@
-// The cases of document 01, as a program over text. A line's first letter says what it does; what stands before the colon is
+// The cases of the papers, as a program over text. A line's first letter says what it does; what stands before the colon is
 // what the line is about, and behind it are words in hex. k starts a kept memory with these words, + adds a row to it, z makes
 // it of so many zero words; q makes a queue of so many bytes, zero but for the words from a place on. The other letters make a
 // call, whose answer is a line of output.

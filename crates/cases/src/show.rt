@@ -19,6 +19,8 @@ fn done(verb: u8, w: [u64; 8]) {
         b'r' => run(w),
         b'f' => told(b"{Filled|Cut}, stores #", w),
         b't' => outcome(w),
+        b'w' => told(b"{Stored|Dropped|Cut}, stores #", w),
+        b'o' => told(b"record $ $ $ $", w),
         _ => text::say(b"accepted"),
     }
 }

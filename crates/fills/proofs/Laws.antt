@@ -14,7 +14,7 @@ use lib.Seq.{getD-set-same, getD-set-other}
 use borrow.Author.Tests.{not-true, not-false}
 use Rattle.words.specs.Stores.{storeIn, afterStores}
 use Rattle.words.specs.Outcomes.{Outcome}
-use Rattle.words.proofs.Stores.{after-all, after-length, stores-keep, untouched, over-cut}
+use Rattle.words.proofs.Stores.{each-place, after-all, after-length, stores-keep, untouched, over-cut}
 use Rattle.words.proofs.Truth.{left, right, and-true, less-or-not}
 use Rattle.rows.specs.declared.Row.{Row}
 use Rattle.rows.specs.Rows.{isEmpty}
@@ -34,7 +34,7 @@ use Rattle.fills.specs.declared.FillRefusal.the-variants.{Image, NoSuchR
 use Rattle.fills.specs.declared.FillAnswer.{FillAnswer}
 use Rattle.fills.specs.declared.FillAnswer.the-variants.{Refused as NotFilled, Done}
 use Rattle.fills.specs.Fills.{fillStores, fit, report, refused, fill}
-use Rattle.fills.proofs.Order.{each-place, report-cut, report-filled}
+use Rattle.fills.proofs.Order.{report-cut, report-filled}
 use Rattle.fills.proofs.Cases.{done, fill-image, fill-no-row, fill-in-use, fill-unfit, fill-doubled, fill-done}
 
 -- a fill that no refusal stops

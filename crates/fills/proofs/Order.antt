@@ -2,22 +2,14 @@
 -- Assumes nothing.
 use mathlib.Core.Path.{_≡_, refl}
 use mathlib.Core.List.{List}
-use Prim.Native.Nat.{ℕ, zero, suc, _+_, _*_, _%_, _≤_, _<_}
+use Prim.Native.Nat.{ℕ, _+_, _*_, _%_, _≤_, _<_}
 use native.Mathlib.Omega.{arith}
 use lib.ListN.{set}
 use borrow.Author.Tests.{lt-ltb, le-ltb}
-use Rattle.words.proofs.Stores.{Storing, again, cut-leaves, all-made}
+use Rattle.words.proofs.Stores.{each-place, Storing, again, cut-leaves, all-made}
 use Rattle.rows.specs.declared.Row.{Row}
 use Rattle.fills.specs.declared.FillEnd.the-variants.{Filled, Cut}
 use Rattle.fills.specs.Fills.{fillStores, storeAt, report, Stores}
-
--- what holds at each of the four places holds of every place
-pub each-place : (P : ℕ → Type 0) → P 0 → P 1 → P 2 → P 3 → (k : ℕ) → k < 4 → P k
-each-place P a b c d zero h = a
-each-place P a b c d (suc zero) h = b
-each-place P a b c d (suc (suc zero)) h = c
-each-place P a b c d (suc (suc (suc zero))) h = d
-each-place P a b c d (suc (suc (suc (suc k)))) h = absurd (omega arith)
 
 module _ (row : ℕ) (words : Row) where
   -- where the store at a place goes, and what it stores whatever the row is

@@ -10,11 +10,13 @@ use Rattle.commands.specs.FeatureBits.{featuresOf}
 use Rattle.runs.specs.Call as runs
 use Rattle.fills.specs.Fills as fills
 use Rattle.control_calls.specs.Calls as control-calls
+use Rattle.event_calls.specs.Calls as event-calls
 use Rattle.transactions.specs.declared.Transaction.{Transaction}
 use Rattle.transactions.specs.Call as transactions
 use Rattle.image_state.specs.States as states
 use Rattle.interface.specs.declared.Reply.{Reply}
 use Rattle.interface.specs.Replies.{runReply, fillReply, doorbellReply, acknowledgeReply, clearReply, enableReply, translateReply, stateReply}
+use Rattle.interface.specs.Recorded.{eventWriteReply, eventReadReply, eventAcknowledgeReply}
 use Rattle.host.specs.Told.{telling}
 
 abbrev pub run : ℕ → ℕ → List ℕ → List ℕ → Outcome (List ℕ) Reply
@@ -36,6 +38,16 @@ clearPending m = telling clearReply (control-calls.clearPending m)
 -- on, if the word is not 0
 abbrev pub enable : ℕ → List ℕ → Outcome (List ℕ) Reply
 enable on m = telling enableReply (control-calls.enable m (not (eqb on 0)))
+
+-- document 02, T-01: the recorder's words are lent in place of the kept memory
+abbrev pub eventWrite : List ℕ → ℕ → List ℕ → Outcome (List ℕ) Reply
+eventWrite bytes allowance m = telling eventWriteReply (event-calls.write m bytes allowance)
+
+abbrev pub eventRead : List ℕ → Outcome (List ℕ) Reply
+eventRead m = telling eventReadReply (event-calls.read m)
+
+abbrev pub eventAcknowledge : List ℕ → Outcome (List ℕ) Reply
+eventAcknowledge m = telling eventAcknowledgeReply (event-calls.acknowledge m)
 
 -- these two only read
 abbrev pub translate : Transaction → List ℕ → Reply

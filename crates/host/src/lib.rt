@@ -5,7 +5,7 @@ use interface::Reply;
 use rows::Row;
 ghost use Rattle.interface.specs.Asked.{transactionOf};
 ghost use Rattle.host.specs.Told.{Told, Leaves};
-ghost use Rattle.host.specs.Calls.{run, fill, doorbell, acknowledge, clearPending, enable, translate, state};
+ghost use Rattle.host.specs.Calls.{run, fill, doorbell, acknowledge, clearPending, enable, eventWrite, eventRead, eventAcknowledge, translate, state};
 
 // Puts a reply's words into the answer, and hands back its number.
 fn tell(answer: &mut [u64; 8], reply: Reply) -> u64
@@ -115,4 +115,34 @@ pub extern "C" fn tahvenno_state(kept: &[u64], answer: &mut [u64; 8]) -> u64
         &mut *answer,
         interface::state_reply(image_state::state_of(kept)),
     )
+}
+
+// The recorder, in words of its own.
+#[no_mangle]
+pub extern "C" fn tahvenno_event_write(
+    events: &mut [u64],
+    bytes: &[u8; 32],
+    allowance: u64,
+    answer: &mut [u64; 8],
+) -> u64
+    ensures { λ r. ⌜ Leaves (eventWrite (now (bytes .entry)) allowance (now (events .entry))) (now (events .exit)) (now (answer .exit)) r ⌝ }
+{
+    let a = event_calls::write(&mut *events, bytes, allowance);
+    tell(&mut *answer, interface::event_write_reply(a))
+}
+
+#[no_mangle]
+pub extern "C" fn tahvenno_event_read(events: &mut [u64], answer: &mut [u64; 8]) -> u64
+    ensures { λ r. ⌜ Leaves (eventRead (now (events .entry))) (now (events .exit)) (now (answer .exit)) r ⌝ }
+{
+    let a = event_calls::read(&mut *events);
+    tell(&mut *answer, interface::event_read_reply(a))
+}
+
+#[no_mangle]
+pub extern "C" fn tahvenno_event_acknowledge(events: &mut [u64], answer: &mut [u64; 8]) -> u64
+    ensures { λ r. ⌜ Leaves (eventAcknowledge (now (events .entry))) (now (events .exit)) (now (answer .exit)) r ⌝ }
+{
+    let a = event_calls::acknowledge(&mut *events);
+    tell(&mut *answer, interface::event_acknowledge_reply(a))
 }

@@ -2,11 +2,11 @@
 -- Assumes nothing.
 use mathlib.Core.Path.{_≡_, refl, sym, ap, _∙_}
 use mathlib.Core.Bool.{Bool, true, _&&_}
-use Prim.Native.Nat.{ℕ, zero, suc, _+_, _-_, _%_, _^_, _≤_, _<_}
-use native.Mathlib.Nat.{mod-eq-of-lt, mod-lt, mod-le, mod-mod, mod-add-mod, add-mod-mod, le-of-lt}
+use Prim.Native.Nat.{ℕ, zero, suc, _+_, _-_, _*_, _%_, _^_, _≤_, _<_}
+use native.Mathlib.Nat.{mod-eq-of-lt, mod-lt, mod-le, mod-mod, mod-add-mod, add-mod-mod, add-mod-left, add-mod-right, le-of-lt}
 use native.Mathlib.Omega.{arith}
 use lib.Dec.{leb, ltb}
-use lib.Pow.{pow-pos}
+use lib.Pow.{pow-pos, pow-add, mod-mod-pow}
 use borrow.Author.Tests.{ltb-true, lt-ltb, leb-true, le-leb}
 use Rattle.words.proofs.Truth.{left, right, and-true}
 use Rattle.indexes.specs.Indexes.{slots, turn, inRange, distance, slot, next, wellFormed}
@@ -67,6 +67,54 @@ module _ (n : ℕ) where
   unfolding slot
   slot-lt rd = mod-lt rd (pow-pos n)
 
+  -- one more waits after WR's next index
+  pub distance-more : (rd wr d : ℕ) → distance n rd wr ≡ d → d < slots n → distance n rd (next n wr) ≡ suc d
+  unfolding next
+  distance-more rd wr d e room =
+      let t = turn n in
+      let double : t ≡ slots n * 2 = pow-add 2 n 1 in
+      is-distance (suc d) rd ((wr + 1) % t) (omega arith)
+      (ap (λ (k : ℕ). k % t) (let s : suc d + rd ≡ distance n rd wr + rd + 1 = omega arith in s)
+      ∙ sym (mod-add-mod (distance n rd wr + rd) t 1) ∙ ap (λ (k : ℕ). (k + 1) % t) (arrives rd wr)
+      ∙ mod-add-mod wr t 1 ∙ sym (mod-mod (wr + 1) t))
+
+  -- the slot is the same after a turn
+  slot-turn : (i : ℕ) → slot n (i % turn n) ≡ slot n i
+  unfolding slot
+  slot-turn i = ap (λ (k : ℕ). i % 2 ^ k % slots n) (let s : n + 1 ≡ 1 + n = omega arith in s) ∙ mod-mod-pow i 1 n
+
+  -- the distance on from an index's slot comes to WR's
+  slot-arrives : (i wr : ℕ) → slot n (distance n i wr + i) ≡ slot n wr
+  slot-arrives i wr = sym (slot-turn (distance n i wr + i)) ∙ ap (slot n) (arrives i wr) ∙ slot-turn wr
+
+  -- an index behind WR by less than a full queue has another slot than WR's
+  pub slot-apart : (i wr : ℕ) → 0 < distance n i wr → distance n i wr < slots n → slot n i ≡ slot n wr → ⊥
+  unfolding slot
+  slot-apart i wr some room e =
+      let s = slots n in
+      let d = distance n i wr in
+      let meets : (d + i % s) % s ≡ i % s % s = add-mod-mod d i s ∙ slot-arrives i wr ∙ sym e ∙ sym (mod-mod i s) in
+      let none : d ≡ 0 =
+      the-way s d (i % s) (i % s) room (le-of-lt (mod-lt i (pow-pos n))) meets
+      ∙ ap (λ (k : ℕ). k % s) (let q : i % s + s - i % s ≡ 0 + s = omega arith in q) ∙ add-mod-right 0 s ∙ mod-eq-of-lt (pow-pos n) in
+      omega arith
+
+  -- so where the queue is not full, WR's slot is none of those that wait
+  pub waiting-apart : (rd wr i : ℕ) → distance n rd wr < slots n → i < distance n rd wr → slot n ((i + rd) % turn n) ≡ slot n wr → ⊥
+  waiting-apart rd wr i room h =
+      let t = turn n in
+      let d = distance n rd wr in
+      let rest : distance n ((i + rd) % t) wr ≡ d - i =
+      is-distance (d - i) ((i + rd) % t) wr (omega (arith, distance-lt rd wr))
+      (add-mod-mod (d - i) (i + rd) t ∙ ap (λ (k : ℕ). k % t) (let s : d - i + (i + rd) ≡ d + rd = omega arith in s) ∙ arrives rd wr) in
+      slot-apart ((i + rd) % t) wr (rw rest (omega arith)) (rw rest (omega arith))
+
+  -- behind by a full queue it has the same one
+  pub slot-full : (i wr : ℕ) → distance n i wr ≡ slots n → slot n i ≡ slot n wr
+  unfolding slot
+  slot-full i wr e =
+      sym (add-mod-left (slots n) i) ∙ ap (λ (k : ℕ). (k + i) % slots n) (sym e) ∙ slot-arrives i wr
+
 -- the indexes as a record of what well formed says
 pub record Formed (n rd wr : ℕ) : Type 0 where
   pub rd-in : rd < turn n
@@ -107,3 +155,8 @@ formed-next n rd wr f some =
     shorter : (d : ℕ) → distance n rd wr ≡ d → distance n (next n rd) wr ≤ slots n
     shorter zero e = absurd (some (none-waits n rd wr (f .rd-in) (f .wr-in) e))
     shorter (suc d) e = rw (distance-next n rd wr d e) (omega (arith, f .apart))
+
+-- one may be added where the queue is not full
+pub formed-more : (n rd wr : ℕ) → Formed n rd wr → distance n rd wr < slots n → Formed n rd (next n wr)
+formed-more n rd wr f room =
+    record { rd-in = f .rd-in; wr-in = next-lt n wr; apart = rw (distance-more n rd wr (distance n rd wr) refl room) (omega arith) }

@@ -36,7 +36,7 @@ fn bit_of(on: bool) -> u64
 }
 
 // Carried out or refused, with no word to tell.
-fn nothing(code: u64) -> Reply
+pub fn nothing(code: u64) -> Reply
     ensures { λ r. ⌜ r ≡ nothing code ⌝ }
 {
     Reply {

@@ -1,6 +1,7 @@
 // Between the unit's types and C's words: what a C caller asks, and what it is told.
 mod answers;
 mod asked;
+mod recorded;
 
 pub use answers::acknowledge_reply;
 pub use answers::clear_reply;
@@ -11,6 +12,9 @@ pub use answers::run_reply;
 pub use answers::state_reply;
 pub use answers::translate_reply;
 pub use asked::transaction_of;
+pub use recorded::event_acknowledge_reply;
+pub use recorded::event_read_reply;
+pub use recorded::event_write_reply;
 
 // The number that a call returns, 0 or its refusal's, and the eight words of its answer.
 pub struct Reply {

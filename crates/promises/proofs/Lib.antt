@@ -18,3 +18,4 @@ pub mod Order
 pub mod Calls
 pub mod Filling
 pub mod Numbers
+pub mod Recorder

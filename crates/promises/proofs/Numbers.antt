@@ -11,6 +11,7 @@ use Rattle.words.specs.Outcomes.{Outcome}
 use Rattle.words.specs.Search.{lowest}
 use Rattle.words.specs.declared.Found.{Found}
 use Rattle.words.specs.declared.Found.the-variants.{At, Nothing}
+use Rattle.words.proofs.Truth.{through}
 use Rattle.attributes.specs.Formats as attributes
 use Rattle.rows.specs.declared.Row.{Row}
 use Rattle.control.specs.Control as control
@@ -62,13 +63,8 @@ module _ {A : Type 0} (m : List ℕ) (number : A → ℕ) (refuses : Refusal →
   image-first : told (image.check m) ≡ first (ofImage m ++ rules)
   image-first = by-length (image.lengthGood m) refl
 
--- a number of a choice is a choice of numbers
-through : {A : Type 0} (number : A → ℕ) (b : Bool) (x y : A) → number (pick b x y) ≡ pick b (number x) (number y)
-through number true x y = refl
-through number false x y = refl
-
 -- a number of an outcome's answer
-abbrev ofAnswer : {M A : Type 0} → (A → ℕ) → Outcome M A → ℕ
+abbrev pub ofAnswer : {M A : Type 0} → (A → ℕ) → Outcome M A → ℕ
 ofAnswer number o = number (o .answer)
 
 module _ (m : List ℕ) where

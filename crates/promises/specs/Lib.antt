@@ -12,3 +12,4 @@ pub mod Calls
 pub mod Filling
 pub mod Numbers
 pub mod Pending
+pub mod Recorder

@@ -11,6 +11,14 @@ use lib.ListN.{length, getD, set, length-set}
 use lib.Seq.{getD-set-other, set-set, set-comm}
 use Rattle.words.specs.Stores.{Store, storeIn, afterStores}
 
+-- what holds at each of the four places holds of every place
+pub each-place : (P : ℕ → Type 0) → P 0 → P 1 → P 2 → P 3 → (k : ℕ) → k < 4 → P k
+each-place P a b c d zero h = a
+each-place P a b c d (suc zero) h = b
+each-place P a b c d (suc (suc zero)) h = c
+each-place P a b c d (suc (suc (suc zero))) h = d
+each-place P a b c d (suc (suc (suc (suc k)))) h = absurd (omega arith)
+
 -- none, one more, and no more than all
 pub after-none : (ss : List Store) (m : List ℕ) → afterStores 0 ss m ≡ m
 unfolding afterStores

@@ -1,0 +1,5 @@
+pub mod Formed
+pub mod Checks
+pub mod Index
+pub mod Waiting
+pub mod Counts

@@ -1,0 +1,16 @@
+-- `interface::recorded::event_acknowledge_refusal` meets its contract.
+-- Assumes nothing.
+use borrow.Author.Needs.{needs}
+use Rattle.interface.proofs.recorded.event_acknowledge_refusal.Statement.{statement}
+use Rattle.interface.proofs.recorded.event_acknowledge_refusal.Tie as tie
+
+returns : tie.Need-returns
+returns c = rw (c .before .before .why .given .1, c .recorder-reply .ensures)
+
+returns-2 : tie.Need-returns-2
+returns-2 c = rw (c .before .enum-told .given .1, c .nothing .ensures)
+
+pub event-acknowledge-refusal-spec : {M : Type 1} → statement M
+event-acknowledge-refusal-spec =
+    tie.close
+    (tie.spec (λ c. search needs) (λ c κs. search needs) (λ c. search needs) (λ c κs. search needs) returns returns-2)
