@@ -9,7 +9,7 @@ use lib.Dec.{eqb}
 use borrow.Author.Tests.{eqb-true, not-true}
 use Rattle.words.proofs.Truth.{left, right, never}
 use Rattle.rows.specs.declared.Row.{Row}
-use Rattle.rows.specs.Rows.{stage1, stage2, kind, isEmpty, isLast, isGlobal, vmid, asid, covers}
+use Rattle.rows.specs.Rows.{stage1, stage2, kind, isEmpty, mayAnswer, isGlobal, vmid, asid, covers}
 use Rattle.rows.proofs.LastLevel.{last-is-used}
 use Rattle.row_forms.specs.WellFormed.{addressBits, document01, wellFormedBy}
 use Rattle.row_forms.proofs.Halves.{stage-formed, low-only}
@@ -19,6 +19,7 @@ use Rattle.commands.specs.declared.Command.the-variants.{TlbiNhVa, TlbiNhVaa}
 use Rattle.scopes.specs.Scopes.{spared, stageOf, stageAt, addressOf, hasAsid, removes, tooWide, inScope}
 use Rattle.lookups.specs.declared.Wanted.the-variants.{Stage1, Stage2}
 use Rattle.lookups.specs.Lookups.{fits, answers}
+use Rattle.lookups.proofs.Laws.{only-last}
 
 module _ (row : Row) (old : wellFormedBy document01 row ≡ true) where
   -- such a row covers no address of the upper half
@@ -64,22 +65,22 @@ module _ (row : Row) (old : wellFormedBy document01 row ≡ true) where
   pub stage1-unanswered : (id s a : ℕ) → 2 ^ addressBits ≤ a → answers (Stage1 id s a) row ≡ false
   unfolding answers fits
   stage1-unanswered id s a h =
-      let l = isLast row in
+      let l = mayAnswer row in
       let k = eqb (kind row) stage1 in
       let v = eqb (vmid row) id in
       let g = isGlobal row || eqb (asid row) s in
       let c = covers row a in
       never (answers (Stage1 id s a) row)
       (λ e. let all = right l (k && v && g && c) e in
-      not-above stage1 a (last-is-used row (left l (k && v && g && c) e)) (left k v (left (k && v) g (left (k && v && g) c all))) refl refl h (right (k && v && g) c all))
+      not-above stage1 a (last-is-used row (only-last (Stage1 id s a) row e)) (left k v (left (k && v) g (left (k && v && g) c all))) refl refl h (right (k && v && g) c all))
 
   pub stage2-unanswered : (id a : ℕ) → 2 ^ addressBits ≤ a → answers (Stage2 id a) row ≡ false
   unfolding answers fits
   stage2-unanswered id a h =
-      let l = isLast row in
+      let l = mayAnswer row in
       let k = eqb (kind row) stage2 in
       let v = eqb (vmid row) id in
       let c = covers row a in
       never (answers (Stage2 id a) row)
       (λ e. let all = right l (k && v && c) e in
-      not-above stage2 a (last-is-used row (left l (k && v && c) e)) (left k v (left (k && v) c all)) refl refl h (right (k && v) c all))
+      not-above stage2 a (last-is-used row (only-last (Stage2 id a) row e)) (left k v (left (k && v) c all)) refl refl h (right (k && v) c all))

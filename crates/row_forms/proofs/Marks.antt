@@ -9,7 +9,7 @@ use native.Mathlib.Nat.{div-div-eq-div-mul}
 use native.Mathlib.Omega.{arith}
 use lib.Dec.{eqb}
 use lib.ListN.{getD}
-use borrow.Author.Tests.{eqb-true, eq-eqb, eqb-false}
+use borrow.Author.Tests.{eqb-true, eq-eqb, eqb-false, not-true}
 use Rattle.words.specs.Parts.{part, isSet}
 use Rattle.words.specs.Ranges.{bits, get, named, all, onlyIn}
 use Rattle.words.proofs.Parts.{part-lt}
@@ -30,10 +30,6 @@ spares s =
 all-spare : all 8 spares ≡ true
 unfolding spares
 all-spare = refl
-
-not-true : (b : Bool) → not b ≡ true → b ≡ false
-not-true true e = clash e refl
-not-true false e = refl
 
 module _ (row : Row) where
   shape-kind : shape row % 4 ≡ kind row
