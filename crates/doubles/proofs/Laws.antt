@@ -119,3 +119,7 @@ module _ (m : List ℕ) (n : ℕ) (words : Row) where
   pub is-alone : ((j : ℕ) → j < n → collides words (rowAt m j) ≡ false) → doubled m n words ≡ false
   unfolding doubled collidesAt
   is-alone f = ap isFound (from-zero (collidesAt m words) n ∙ is-none (collidesAt m words) n 0 (omega arith) (λ j a h. f j h))
+
+  -- marked words always are
+  pub marked-alone : isUnmarked words ≡ false → doubled m n words ≡ false
+  marked-alone e = is-alone (λ j h. first-marked words (rowAt m j) e)
