@@ -12,7 +12,9 @@ use Rattle.words.proofs.Truth.{less-or-not}
 use Rattle.rows.specs.declared.Row.{Row}
 use Rattle.rows.specs.Rows.{isEmpty, isUnmarked}
 use Rattle.rows.proofs.LastLevel.{empty-silent, marked-silent}
-use Rattle.image.specs.Image.{rowsIn, rowAt}
+use Rattle.row_forms.proofs.Marks.{old-unmarked}
+use Rattle.image.specs.Image.{rowAt}
+use Rattle.image.specs.Rules as image
 use Rattle.image.proofs.Checks.{accepts}
 use Rattle.fills.specs.declared.FillAnswer.{FillAnswer}
 use Rattle.fills.specs.Fills.{fill}
@@ -70,3 +72,7 @@ module _ (m : List ℕ) (row : ℕ) (words : Row) (marked : isUnmarked words ≡
           by-allowance : (k < 4) ⊎ (4 ≤ k) → translate (fill m row words k .memory) t ≡ translate m t
           by-allowance (inl h) = half-filled-unseen m row words k h t
           by-allowance (inr h) = whole-unseen n c h
+
+-- no row of an image that document 01 accepts is marked
+pub old-rows-unmarked : (m : List ℕ) (n : ℕ) → image.AcceptedBy image.document01 m n → (i : ℕ) → i < n → isUnmarked (rowAt m i) ≡ true
+old-rows-unmarked m n a i h = old-unmarked (rowAt m i) (a .rows-formed i h)

@@ -16,7 +16,7 @@ use Rattle.attributes.specs.Formats as attributes
 use Rattle.rows.specs.declared.Row.{Row}
 use Rattle.rows.specs.Rows.{ste, cd, kind, isLast, isEmpty, span, config, newMemAttr, validBits, attributesOf}
 use Rattle.rows.proofs.LastLevel.{last-is-used}
-use Rattle.row_forms.specs.WellFormed.{onlyNamed, knownConfig, steGood, addressBits, placed, begins, markGood, stageGood, stageGoodBy, good, goodBy, wellFormed, wellFormedBy}
+use Rattle.row_forms.specs.WellFormed.{onlyNamed, knownConfig, steGood, addressBits, placed, begins, markGood, stageGoodBy, good, goodBy, wellFormed, wellFormedBy}
 
 module _ (row : Row) (f : wellFormed row ≡ true) (l : isLast row ≡ true) where
   last-good : good row ≡ true

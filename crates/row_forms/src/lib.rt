@@ -133,8 +133,7 @@ fn mark_good(row: Row) -> bool
     let p = rows::parts_of(row);
     (p.mark == marks::UNMARKED)
         | ((p.vmid == 0)
-            & ((p.mark == marks::EL2_E2H)
-                | ((p.mark == marks::EL2) & (p.asid == 0) & !p.global)))
+            & ((p.mark == marks::EL2_E2H) | ((p.mark == marks::EL2) & (p.asid == 0) & !p.global)))
 }
 
 fn stage_good(row: Row) -> bool
