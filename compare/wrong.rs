@@ -3,8 +3,11 @@
 
 mod doubles;
 mod events;
+mod forms;
+mod hyp;
 mod pending;
 mod reasons;
+mod seen;
 mod upper;
 
 use crate::call::{Call, FIRST_EVENT, NAMES, NUMBERS};
@@ -45,6 +48,8 @@ enum Fault {
     Doubles(doubles::Fault),
     /// The event recorder does something else.
     Events(events::Fault),
+    /// The hypervisor's rows and commands are others.
+    Hyp(hyp::Fault),
 }
 
 pub struct Wrong {
@@ -105,6 +110,9 @@ pub fn all() -> Vec<Wrong> {
     for (name, fault) in events::all() {
         add(name, Fault::Events(fault));
     }
+    for (name, fault) in hyp::all() {
+        add(name, Fault::Hyp(fault));
+    }
     all
 }
 
@@ -153,6 +161,7 @@ impl Wrong {
         match self.fault {
             Fault::Upper(fault) => return fault.perform(call, kept, answer),
             Fault::Doubles(fault) => return fault.perform(call, kept, answer),
+            Fault::Hyp(fault) => return fault.perform(call, kept, answer),
             _ => (),
         }
         let before = kept.inner().to_vec();
