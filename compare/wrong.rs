@@ -95,6 +95,14 @@ pub fn all() -> Vec<Wrong> {
     add("04: Range of four bits".into(), Fault::Read(0x04, 1 << 4));
     add("03: Leaf not read".into(), Fault::Read(0x03, 1));
     add("a queue's length of 16 bits".into(), Fault::Wrapped);
+    all.extend(requests());
+    all
+}
+
+/// Those of document 02's requests.
+fn requests() -> Vec<Wrong> {
+    let mut all = Vec::new();
+    let mut add = |name: String, fault| all.push(Wrong { name, fault });
     for (name, fault) in reasons::ALL {
         add(name.into(), Fault::Mistold(fault));
     }

@@ -34,27 +34,36 @@ fn codes(before: &[u64], queue: &[u8], reply: Reply) -> Vec<u8> {
         .collect()
 }
 
-/// Marked rows go by 20 to 23 alone, and by no other row's commands; EL2 rows and
-/// EL2-E2H rows as E2H is set, but for 20, and for 21 that is about the latter.
+/// Which rows a run took: those without a mark, EL2 rows and EL2-E2H rows.
+fn gone(before: &[u64], after: &[u64]) -> [bool; 4] {
+    let mut gone = [false; 4];
+    for (number, row) in rows(before).enumerate() {
+        gone[mark(row.0[0]) as usize] |= row.used() && after[place(number)] == 0;
+    }
+    gone
+}
+
+/// Marked rows go by 20 to 23 alone, and others never do; EL2 rows and EL2-E2H rows
+/// as E2H is set, but for 20, and for 21 that is about the latter.
 pub fn run(
     before: &[u64],
     (queue, features): (&[u8], u64),
     reply: Reply,
     after: &[u64],
 ) -> Option<&'static str> {
-    let mut gone = [false; 4];
-    for (number, row) in rows(before).enumerate() {
-        gone[mark(row.0[0]) as usize] |= row.used() && after[place(number)] == 0;
-    }
-    if gone == [false; 4] {
+    let [guest, el2, el2_e2h, _] = gone(before, after);
+    let owned = el2 || el2_e2h;
+    if !guest && !owned {
         return None;
     }
     let codes = codes(before, queue, reply);
     let any = |asked: &[u8]| codes.iter().any(|code| asked.contains(code));
-    let owned = gone[1] || gone[2];
-    let e2h = features & E2H != 0;
     let others = codes.iter().any(|code| !(0x20..=0x23).contains(code));
-    [
+    let (for_el2, for_el2_e2h): (&[u8], &[u8]) = match features & E2H {
+        0 => (&[0x20, 0x22, 0x23], &[0x20, 0x21]),
+        _ => (&[0x20], &[0x20, 0x21, 0x22, 0x23]),
+    };
+    let laws = [
         (
             owned && features & HYP == 0,
             "a marked row goes without Hyp",
@@ -63,25 +72,17 @@ pub fn run(
             owned && features & S1P == 0,
             "a marked row goes without S1P",
         ),
-        (gone[0] && !others, "a row without a mark goes by 20 to 23"),
+        (guest && !others, "a row without a mark goes by 20 to 23"),
+        (el2 && !any(for_el2), EL2_GOES),
+        (el2_e2h && !any(for_el2_e2h), EL2_E2H_GOES),
         (
-            gone[1] && !any(if e2h { &[0x20] } else { &[0x20, 0x22, 0x23] }),
-            "an EL2 row goes by another command, or at another E2H",
-        ),
-        (
-            gone[2]
-                && !any(if e2h {
-                    &[0x20, 0x21, 0x22, 0x23]
-                } else {
-                    &[0x20, 0x21]
-                }),
-            "an EL2-E2H row goes by another command, or at another E2H",
-        ),
-        (
-            codes.len() == 1 && owned && gone[0],
+            codes.len() == 1 && owned && guest,
             "one command takes marked rows and others",
         ),
-    ]
-    .into_iter()
-    .find_map(|(broken, law)| broken.then_some(law))
+    ];
+    laws.into_iter()
+        .find_map(|(broken, law)| broken.then_some(law))
 }
+
+const EL2_GOES: &str = "an EL2 row goes by another command, or at another E2H";
+const EL2_E2H_GOES: &str = "an EL2-E2H row goes by another command, or at another E2H";

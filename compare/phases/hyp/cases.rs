@@ -78,6 +78,12 @@ fn formed(checker: &mut Checker) {
         either(checker, [word, 0, 0, 0], accepted);
         either(checker, [word, 0, TOP, 0], accepted);
     }
+    other_parts(checker);
+    other_kinds(checker);
+}
+
+/// Span, addresses and attributes, as in any row of stage 1.
+fn other_parts(checker: &mut Checker) {
     for (word, input, output, accepted) in [
         (EL2, 0x1000, 0x2000, true),
         (E2H | 0x0FC_F << 48, TOP, 0x2000, true),
@@ -90,6 +96,11 @@ fn formed(checker: &mut Checker) {
     ] {
         either(checker, [word, 0, input, output], accepted);
     }
+    either(checker, [EL2, 1, 0, 0], false);
+}
+
+/// STE, CD and stage 2 rows have no mark.
+fn other_kinds(checker: &mut Checker) {
     for mark in [1 << 11, 1 << 12, 3 << 11] {
         either(checker, [0x09 | mark, 5 | 4 << 52, 0, 0], false);
         either(checker, [0xC1 | mark, 0x40, 0, 0], false);
@@ -98,7 +109,6 @@ fn formed(checker: &mut Checker) {
         either(checker, [PAGE_2 | mark, 0, 0, 0], false);
         either(checker, [0x187 | mark, 0, 0, 0], false);
     }
-    either(checker, [EL2, 1, 0, 0], false);
 }
 
 /// Without Hyp or S1P they are illegal, and for that reason whatever else is wrong.

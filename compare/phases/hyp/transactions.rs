@@ -16,6 +16,8 @@ use crate::model::row::{Kind, Row};
 
 /// SHCFG 1: the shareability stays as it comes in.
 const AS_IT_COMES: u64 = 1 << 5;
+/// What stage 1 gives.
+const OUTPUT: u64 = 0x60_0000;
 
 pub fn sweeps(checker: &mut Checker) {
     checker.phase("hypervisor: transactions above, below and without marked rows");
@@ -54,37 +56,38 @@ fn asked(config: u64, address: u64) -> Call<'static> {
     })
 }
 
-/// A chain for each Config, and every row that the hypervisor may have at the page
-/// below the guest's row, above it, and without it. Stream n goes through Config n.
-fn around(checker: &mut Checker, page: u64, span: u64, global: bool) {
-    let mut chain: Vec<Words> = (4..8)
+/// An STE and a CD row for each Config, and stage 2 rows for what comes in and for
+/// what stage 1 gives. Stream n goes through Config n.
+fn chain() -> Vec<Words> {
+    let mut rows: Vec<Words> = (4..8)
         .map(|config| ste(config, 0, config, AS_IT_COMES))
         .collect();
-    chain.extend((4..8).map(|config| cd(config, 0, ASID)));
+    rows.extend((4..8).map(|config| cd(config, 0, ASID)));
+    let second = |page| Reach {
+        kind: STAGE2,
+        ..first(21, page)
+    };
+    rows.extend([OUTPUT, PAGE].map(|page| second(page).page(2 * page, WRITE_BACK)));
+    rows
+}
+
+/// Every row that the hypervisor may have at the page, below the guest's row, above
+/// it, and without it.
+fn around(checker: &mut Checker, page: u64, span: u64, global: bool) {
+    let rest = chain();
     let guest = Reach {
         global,
         ..first(span, page)
     };
-    let second = |page| Reach {
-        kind: STAGE2,
-        page,
-        ..first(21, 0)
-    };
-    let mut second: Vec<Words> = [0x60_0000, PAGE]
-        .map(|page| second(page).page(2 * page, WRITE_BACK))
-        .into();
-    let mut rest = chain;
-    rest.append(&mut second);
-    let guest = guest.page(0x60_0000, WRITE_BACK);
-    let gone = vec![[0; 4]; 2 * own(12, page).len()];
+    let guest = [guest.page(OUTPUT, WRITE_BACK)];
     let ours = [own(12, page), own(21, page)].concat();
+    let gone = vec![[0; 4]; ours.len()];
     let orders = |ours: &[Words]| {
-        let empty = [[0; 4]];
         [
-            [ours, &rest, &[guest]].concat(),
-            [&rest[..], &[guest], ours].concat(),
-            [ours, &rest, &empty].concat(),
-            [&rest[..], ours, &[guest]].concat(),
+            [ours, &rest, &guest].concat(),
+            [&rest[..], &guest, ours].concat(),
+            [ours, &rest, &[[0; 4]]].concat(),
+            [&rest[..], ours, &guest].concat(),
         ]
     };
     for (with, without) in orders(&ours).iter().zip(orders(&gone)) {
