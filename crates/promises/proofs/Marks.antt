@@ -12,6 +12,10 @@ use Rattle.words.proofs.Truth.{less-or-not}
 use Rattle.rows.specs.declared.Row.{Row}
 use Rattle.rows.specs.Rows.{isEmpty, isUnmarked}
 use Rattle.rows.proofs.LastLevel.{empty-silent, marked-silent}
+use Rattle.commands.specs.declared.Features.{Features}
+use Rattle.commands.specs.declared.Command.{Command}
+use Rattle.scopes.specs.Scopes.{inScope}
+use Rattle.scopes.proofs.Sorts.{isOwn, others-spared}
 use Rattle.row_forms.proofs.Marks.{old-unmarked}
 use Rattle.image.specs.Image.{rowAt}
 use Rattle.image.specs.Rules as image
@@ -76,3 +80,8 @@ module _ (m : List ℕ) (row : ℕ) (words : Row) (marked : isUnmarked words ≡
 -- no row of an image that document 01 accepts is marked
 pub old-rows-unmarked : (m : List ℕ) (n : ℕ) → image.AcceptedBy image.document01 m n → (i : ℕ) → i < n → isUnmarked (rowAt m i) ≡ true
 old-rows-unmarked m n a i h = old-unmarked (rowAt m i) (a .rows-formed i h)
+
+-- so 20 to 23 remove none of them
+pub old-rows-spared : (m : List ℕ) (n : ℕ) → image.AcceptedBy image.document01 m n → (f : Features) (c : Command) → isOwn c ≡ true → (i : ℕ) → i < n
+    → inScope f c (rowAt m i) ≡ false
+old-rows-spared m n a f c o i h = others-spared (rowAt m i) f c o (old-rows-unmarked m n a i h)

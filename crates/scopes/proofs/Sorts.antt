@@ -3,12 +3,14 @@
 use mathlib.Core.Path.{_≡_, refl, sym, _∙_}
 use mathlib.Core.Bool.{Bool, true, false, not, _&&_, _||_}
 use mathlib.Core.Logic.{⊎-elim}
+use Prim.Native.Nat.{ℕ}
 use lib.Dec.{eqb}
 use borrow.Author.Tests.{not-true}
 use Rattle.words.proofs.Truth.{left, right, either, never, clash, decided}
 use Rattle.rows.specs.declared.Row.{Row}
 use Rattle.rows.specs.Rows as rows
 use Rattle.commands.specs.declared.Features.{Features}
+use Rattle.commands.specs.declared.Target.{Target}
 use Rattle.commands.specs.declared.Command.{Command}
 use Rattle.commands.specs.declared.Command.the-variants.{PrefetchConfig, PrefetchAddr, CfgiSte, CfgiSteRange, CfgiCd, CfgiCdAll, TlbiNhAll, TlbiNhAsid, TlbiNhVa, TlbiNhVaa, TlbiEl2All, TlbiEl2Asid, TlbiEl2Va, TlbiEl2Vaa, TlbiS12Vmall, TlbiS2Ipa, TlbiNsnhAll, Sync}
 use Rattle.scopes.specs.Scopes.{spared, ofStage, stageOf, stageAt, ownOf, ownAt, isE2h, addressOf, hasAsid, removes, inScope}
@@ -37,13 +39,13 @@ isOwn (TlbiS2Ipa vmid target) = false
 isOwn TlbiNsnhAll = false
 isOwn (Sync cs) = false
 
-module _ (row : Row) (k : rows.kind row ≡ rows.stage1) where
+module _ (row : Row) where
   -- what a test of a row says of its mark
-  unmarked-of : (kind : _) (v : _) → stageOf row kind v ≡ true → rows.isUnmarked row ≡ true
+  unmarked-of : (kind v : ℕ) → stageOf row kind v ≡ true → rows.isUnmarked row ≡ true
   unfolding stageOf
   unmarked-of kind v e = right (eqb (rows.kind row) kind) (rows.isUnmarked row) (left (ofStage row kind) (eqb (rows.vmid row) v) e)
 
-  unmarked-at : (kind : _) (v : _) (t : _) → stageAt row kind v t ≡ true → rows.isUnmarked row ≡ true
+  unmarked-at : (kind v : ℕ) (t : Target) → stageAt row kind v t ≡ true → rows.isUnmarked row ≡ true
   unfolding stageAt
   unmarked-at kind v t e = unmarked-of kind v (left (stageOf row kind v) (rows.covers row (addressOf (t .page))) e)
 
@@ -51,63 +53,90 @@ module _ (row : Row) (k : rows.kind row ≡ rows.stage1) where
   unfolding ownOf
   marked-of e = not-true (rows.isUnmarked row) (right (eqb (rows.kind row) rows.stage1) (not (rows.isUnmarked row)) e)
 
-  marked-at : (t : _) → ownAt row t ≡ true → rows.isUnmarked row ≡ false
+  marked-at : (t : Target) → ownAt row t ≡ true → rows.isUnmarked row ≡ false
   unfolding ownAt
   marked-at t e = marked-of (left (ownOf row) (rows.covers row (addressOf (t .page))) e)
 
-  another : (c : Command) → isAbout c (rows.kind row) ≡ false → removes c row ≡ true → rows.isUnmarked row ≡ not (isOwn c)
-  another c n e = clash e (other-kind row c n)
-
-  -- of the stage 1 rows a command takes the hypervisor's own, or the others
-  sort : (c : Command) → removes c row ≡ true → rows.isUnmarked row ≡ not (isOwn c)
-  unfolding removes isAbout
-  sort PrefetchConfig e = clash e refl
-  sort PrefetchAddr e = clash e refl
-  sort (CfgiSte s l) e = another (CfgiSte s l) (rw k) e
-  sort (CfgiSteRange s r) e = another (CfgiSteRange s r) (rw k) e
-  sort (CfgiCd u s l) e = another (CfgiCd u s l) (rw k) e
-  sort (CfgiCdAll s) e = another (CfgiCdAll s) (rw k) e
-  sort (TlbiNhAll v) e = unmarked-of rows.stage1 v e
-  sort (TlbiNhAsid v a) e =
-      let x = stageOf row rows.stage1 v in
-      unmarked-of rows.stage1 v (left x (hasAsid row a) (left (x && hasAsid row a) (not (rows.isGlobal row)) e))
-  sort (TlbiNhVa v a t) e =
-      let x = stageAt row rows.stage1 v t in
-      let y = hasAsid row a || rows.isGlobal row in
-      unmarked-at rows.stage1 v t (left x y (left (x && y) (not (spared row (t .leaf))) e))
-  sort (TlbiNhVaa v t) e = unmarked-at rows.stage1 v t (left (stageAt row rows.stage1 v t) (not (spared row (t .leaf))) e)
-  sort TlbiEl2All e = marked-of e
-  sort (TlbiEl2Asid a) e =
+  -- 20 to 23 take rows with a mark
+  own-marked : (c : Command) → isOwn c ≡ true → removes c row ≡ true → rows.isUnmarked row ≡ false
+  unfolding removes
+  own-marked PrefetchConfig o e = clash o refl
+  own-marked PrefetchAddr o e = clash o refl
+  own-marked (CfgiSte s l) o e = clash o refl
+  own-marked (CfgiSteRange s r) o e = clash o refl
+  own-marked (CfgiCd u s l) o e = clash o refl
+  own-marked (CfgiCdAll s) o e = clash o refl
+  own-marked (TlbiNhAll v) o e = clash o refl
+  own-marked (TlbiNhAsid v a) o e = clash o refl
+  own-marked (TlbiNhVa v a t) o e = clash o refl
+  own-marked (TlbiNhVaa v t) o e = clash o refl
+  own-marked TlbiEl2All o e = marked-of e
+  own-marked (TlbiEl2Asid a) o e =
       let x = ownOf row in
       let y = isE2h row in
       let z = hasAsid row a in
       marked-of (left x y (left (x && y) z (left (x && y && z) (not (rows.isGlobal row)) e)))
-  sort (TlbiEl2Va a t) e =
+  own-marked (TlbiEl2Va a t) o e =
       let x = ownAt row t in
       let y = not (isE2h row) || hasAsid row a || rows.isGlobal row in
       marked-at t (left x y (left (x && y) (not (spared row (t .leaf))) e))
-  sort (TlbiEl2Vaa t) e = marked-at t (left (ownAt row t) (not (spared row (t .leaf))) e)
-  sort (TlbiS12Vmall v) e =
-      ⊎-elim (unmarked-of rows.stage1 v) (unmarked-of rows.stage2 v) (either (stageOf row rows.stage1 v) (stageOf row rows.stage2 v) e)
-  sort (TlbiS2Ipa v t) e = unmarked-at rows.stage2 v t (left (stageAt row rows.stage2 v t) (not (spared row (t .leaf))) e)
-  sort TlbiNsnhAll e =
+  own-marked (TlbiEl2Vaa t) o e = marked-at t (left (ownAt row t) (not (spared row (t .leaf))) e)
+  own-marked (TlbiS12Vmall v) o e = clash o refl
+  own-marked (TlbiS2Ipa v t) o e = clash o refl
+  own-marked TlbiNsnhAll o e = clash o refl
+  own-marked (Sync cs) o e = clash o refl
+
+  pub others-spared : (f : Features) (c : Command) → isOwn c ≡ true → rows.isUnmarked row ≡ true → inScope f c row ≡ false
+  others-spared f c o u = never (inScope f c row) (λ e. clash u (own-marked c o (scoped f c row e .removed)))
+
+module _ (row : Row) (k : rows.kind row ≡ rows.stage1) where
+  another : (c : Command) → isAbout c (rows.kind row) ≡ false → removes c row ≡ true → rows.isUnmarked row ≡ true
+  another c n e = clash e (other-kind row c n)
+
+  -- and every other command takes of the stage 1 rows those without
+  other-unmarked : (c : Command) → isOwn c ≡ false → removes c row ≡ true → rows.isUnmarked row ≡ true
+  unfolding removes isAbout
+  other-unmarked PrefetchConfig o e = clash e refl
+  other-unmarked PrefetchAddr o e = clash e refl
+  other-unmarked (CfgiSte s l) o e = another (CfgiSte s l) (rw k) e
+  other-unmarked (CfgiSteRange s r) o e = another (CfgiSteRange s r) (rw k) e
+  other-unmarked (CfgiCd u s l) o e = another (CfgiCd u s l) (rw k) e
+  other-unmarked (CfgiCdAll s) o e = another (CfgiCdAll s) (rw k) e
+  other-unmarked (TlbiNhAll v) o e = unmarked-of row rows.stage1 v e
+  other-unmarked (TlbiNhAsid v a) o e =
+      let x = stageOf row rows.stage1 v in
+      unmarked-of row rows.stage1 v (left x (hasAsid row a) (left (x && hasAsid row a) (not (rows.isGlobal row)) e))
+  other-unmarked (TlbiNhVa v a t) o e =
+      let x = stageAt row rows.stage1 v t in
+      let y = hasAsid row a || rows.isGlobal row in
+      unmarked-at row rows.stage1 v t (left x y (left (x && y) (not (spared row (t .leaf))) e))
+  other-unmarked (TlbiNhVaa v t) o e = unmarked-at row rows.stage1 v t (left (stageAt row rows.stage1 v t) (not (spared row (t .leaf))) e)
+  other-unmarked TlbiEl2All o e = clash refl o
+  other-unmarked (TlbiEl2Asid a) o e = clash refl o
+  other-unmarked (TlbiEl2Va a t) o e = clash refl o
+  other-unmarked (TlbiEl2Vaa t) o e = clash refl o
+  other-unmarked (TlbiS12Vmall v) o e =
+      ⊎-elim (unmarked-of row rows.stage1 v) (unmarked-of row rows.stage2 v) (either (stageOf row rows.stage1 v) (stageOf row rows.stage2 v) e)
+  other-unmarked (TlbiS2Ipa v t) o e = unmarked-at row rows.stage2 v t (left (stageAt row rows.stage2 v t) (not (spared row (t .leaf))) e)
+  other-unmarked TlbiNsnhAll o e =
       ⊎-elim
       (λ p. right (eqb (rows.kind row) rows.stage1) (rows.isUnmarked row) p)
       (λ p. right (eqb (rows.kind row) rows.stage2) (rows.isUnmarked row) p)
       (either (ofStage row rows.stage1) (ofStage row rows.stage2) e)
-  sort (Sync cs) e = clash e refl
+  other-unmarked (Sync cs) o e = clash e refl
 
-  pub takes-sort : (f : Features) (c : Command) → inScope f c row ≡ true → rows.isUnmarked row ≡ not (isOwn c)
-  takes-sort f c e = sort c (scoped f c row e .removed)
-
-  -- so 10 to 13, 28 and 30 spare the hypervisor's own rows, and 20 to 23 every other
+  -- so 10 to 13, 28 and 30 spare the hypervisor's own rows
   pub own-spared : (f : Features) (c : Command) → isOwn c ≡ false → rows.isUnmarked row ≡ false → inScope f c row ≡ false
-  own-spared f c o u = never (inScope f c row) (λ e. clash (takes-sort f c e ∙ rw o) u)
+  own-spared f c o u = never (inScope f c row) (λ e. clash (other-unmarked c o (scoped f c row e .removed)) u)
 
-  pub others-spared : (f : Features) (c : Command) → isOwn c ≡ true → rows.isUnmarked row ≡ true → inScope f c row ≡ false
-  others-spared f c o u = never (inScope f c row) (λ e. clash u (takes-sort f c e ∙ rw o))
+  takes : (f : Features) (c : Command) → inScope f c row ≡ true → rows.isUnmarked row ≡ not (isOwn c)
+  takes f c e =
+      ⊎-elim
+      (λ o. own-marked row c o (scoped f c row e .removed) ∙ rw o)
+      (λ o. other-unmarked c o (scoped f c row e .removed) ∙ rw o)
+      (decided (isOwn c))
 
 -- no command removes rows of both sorts
 pub one-sort : (f : Features) (c : Command) (row row′ : Row) → rows.kind row ≡ rows.stage1 → rows.kind row′ ≡ rows.stage1
     → inScope f c row ≡ true → inScope f c row′ ≡ true → rows.isUnmarked row ≡ rows.isUnmarked row′
-one-sort f c row row′ k k′ e e′ = takes-sort row k f c e ∙ sym (takes-sort row′ k′ f c e′)
+one-sort f c row row′ k k′ e e′ = takes row k f c e ∙ sym (takes row′ k′ f c e′)
