@@ -71,7 +71,7 @@ module _ (row : Row) where
   unfolding part
   empty-unmarked e = ap (λ (w : ℕ). eqb (part 12 11 w) 0) (eqb-true (row .w0) 0 e)
 
--- the hypervisor's commands find none of document 01's rows
+-- stage 1 rows by the rule, every other kind by its named parts
 pub old-unmarked : (row : Row) → wellFormedBy document01 row ≡ true → isUnmarked row ≡ true
 unfolding wellFormedBy
 old-unmarked row f = ⊎-elim (λ e. empty-unmarked row e) used (decided (isEmpty row))
