@@ -118,7 +118,7 @@ namesIn (code n needs names is) f = names f
 abbrev pub commandIn : Format → ℕ → Command
 commandIn (code n needs names is) c = is c
 
--- the codes, in the paper's order
+-- the codes, in ascending order
 abbrev pub codes : List ℕ
 codes = map codeIn formats
 

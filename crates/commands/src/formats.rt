@@ -1,4 +1,4 @@
-// Document 01, Commands and their scopes: the bits that each code names.
+// Document 01, Commands and their scopes, with document 02, T-05: the bits that each code names.
 use crate::Features;
 ghost use mathlib.Core.Path.{_≡_};
 ghost use Prim.Native.Nat.{_+_, _/_, _≤_, _<_};

@@ -57,6 +57,7 @@ abbrev removing : Features → Decoded → Row → ℕ
 removing f (Illegal why) row = 0
 removing f (Legal c) row = truth (inScope f c row)
 
+-- the features of document 01
 abbrev allYes : Features
 allYes = record { s1p = true; s2p = true; asid16 = true; vmid16 = true; hyp = false; e2h = false }
 

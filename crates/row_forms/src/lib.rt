@@ -1,4 +1,4 @@
-// Document 01, The kept memory: which rows are well formed.
+// Document 01, The kept memory, with document 02, T-04 and T-05: which rows are well formed.
 use rows::Row;
 use rows::attributes_of;
 use rows::config_of;

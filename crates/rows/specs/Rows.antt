@@ -1,4 +1,4 @@
--- Document 01, The kept memory: the four words of a row, and their parts.
+-- Document 01, The kept memory, with document 02, T-05: the four words of a row, and their parts.
 -- Assumes nothing.
 use Prim.Native.Nat.{ℕ, _+_, _^_}
 use mathlib.Core.Bool.{Bool, not, _&&_}
@@ -119,7 +119,7 @@ mark row = get markBits (row .w0)
 abbrev pub isUnmarked : Row → Bool
 isUnmarked row = eqb (mark row) unmarked
 
--- a lookup is answered by last-level rows, of which the hypervisor's own are none
+-- a lookup is answered by last-level rows without a mark
 abbrev pub mayAnswer : Row → Bool
 mayAnswer row = isLast row && isUnmarked row
 

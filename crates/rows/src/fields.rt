@@ -1,4 +1,4 @@
-// Document 01, The kept memory: a row's parts.
+// Document 01, The kept memory, with document 02, T-05: a row's parts.
 use crate::Parts;
 use crate::Row;
 use crate::marks;

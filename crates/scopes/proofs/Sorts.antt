@@ -136,7 +136,7 @@ module _ (row : Row) (k : rows.kind row ≡ rows.stage1) where
       (λ o. other-unmarked c o (scoped f c row e .removed) ∙ rw o)
       (decided (isOwn c))
 
--- no command removes rows of both sorts
+-- no command removes both marked and unmarked rows of stage 1
 pub one-sort : (f : Features) (c : Command) (row row′ : Row) → rows.kind row ≡ rows.stage1 → rows.kind row′ ≡ rows.stage1
     → inScope f c row ≡ true → inScope f c row′ ≡ true → rows.isUnmarked row ≡ rows.isUnmarked row′
 one-sort f c row row′ k k′ e e′ = takes row k f c e ∙ sym (takes row′ k′ f c e′)

@@ -81,11 +81,11 @@ ownAt row target = ownOf row && rows.covers row (addressOf (target .page))
 abbrev pub hasAsid : Row → ℕ → Bool
 hasAsid row asid = eqb (rows.asid row) asid
 
--- rows of either stage
+-- rows of either stage, but for the hypervisor's own
 abbrev pub isStage : Row → Bool
 isStage row = ofStage row rows.stage1 || ofStage row rows.stage2
 
--- the table's last column
+-- the table's last column, and 20 to 23
 unfoldable pub removes : Command → Row → Bool
 removes PrefetchConfig row = false
 removes PrefetchAddr row = false
@@ -160,7 +160,8 @@ byRegime (Sync cs) = false
 unfoldable pub inRegime : Features → Command → Row → Bool
 inRegime f command row = not (byRegime command) || eqb (rows.mark row) (regime f)
 
--- a row is in a command's scope: it is not empty, and the command removes it
+-- a row is in a command's scope: it is not empty, no identifier of the command is too wide, the row is of the sort that E2H names
+-- where the command asks for one, and the command removes it
 unfoldable pub inScope : Features → Command → Row → Bool
 inScope f command row = not (rows.isEmpty row) && not (tooWide f command) && inRegime f command row && removes command row
 

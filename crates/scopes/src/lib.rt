@@ -1,4 +1,4 @@
-// Document 01, Commands and their scopes: which rows a legal command removes.
+// Document 01, Commands and their scopes, with document 02, T-05: which rows a legal command removes.
 use commands::Command;
 use commands::Features;
 use commands::Target;
