@@ -83,6 +83,7 @@ void any_call(struct dice *dice, const struct input *input, enum which which, st
     uint64_t spoil = below(dice, 8), word = below(dice, 4), bit = below(dice, 64);
     if (spoil == 0) call->w[word] ^= UINT64_C(1) << bit;
     if (spoil == 1) call->w[2 + word % 2] ^= UPPER_HALF;
+    if (spoil == 2) call->w[0] ^= word % 2 ? EL2_MARK : E2H_MARK;
     if (below(dice, 32) == 0) call->w[0] = 0;
     if (which != ENABLE) call->argument = any_index(dice, input->kept[0]);
     else if (below(dice, 2)) call->argument = roll(dice);

@@ -70,10 +70,18 @@ static uint64_t any_page(struct dice *dice) {
     return below(dice, 2) ? page | UPPER_HALF : page;
 }
 
+/* Whose a row of stage 1 is: a guest's, or with a mark the hypervisor's, which has no VMID, and for EL2 nothing else either. */
+static uint64_t any_space(struct dice *dice) {
+    static const uint64_t marks[] = {0, 0, 0, EL2_MARK, E2H_MARK, E2H_MARK};
+    uint64_t mark = PICK(dice, marks), vmid = PICK(dice, VMIDS) << 16, global = below(dice, 2) << 4, asid = PICK(dice, ASIDS) << 32;
+    if (mark == EL2_MARK) return mark;
+    return mark ? mark | global | asid : vmid | global | asid;
+}
+
 static void stage_row(struct dice *dice, unsigned kind, int last, uint64_t row[4]) {
-    uint64_t span = PICK(dice, SPANS), memattr = PICK(dice, TYPES), global = below(dice, 2), asid = PICK(dice, ASIDS);
-    row[0] |= span << 5 | PICK(dice, VMIDS) << 16;
-    if (kind == 2) row[0] |= global << 4 | asid << 32;
+    uint64_t span = PICK(dice, SPANS), memattr = PICK(dice, TYPES);
+    row[0] |= span << 5;
+    row[0] |= kind == 2 ? any_space(dice) : PICK(dice, VMIDS) << 16;
     row[2] = (kind == 2 ? any_page(dice) : PICK(dice, PAGES)) >> span << span;
     if (last) {
         uint64_t hints = kind == 2 ? hints_of(dice, memattr) : 0;
@@ -104,6 +112,7 @@ static uint64_t last_of(const uint64_t row[4]) {
 int doubles(const uint64_t one[4], const uint64_t other[4]) {
     uint64_t differ = one[0] ^ other[0], ids = one[1] ^ other[1], kind = one[0] >> 1 & 3;
     if ((one[0] & other[0] & 9) != 9 || differ & 6) return 0; /* valid and last-level, of one kind */
+    if ((one[0] | other[0]) & MARKS) return 0;
     if (kind == 0) return (uint32_t)ids == 0;
     if (kind == 1) return ids << 12 == 0;
     if (differ >> 16 & 0xFFFF || one[2] > last_of(other) || other[2] > last_of(one)) return 0;
@@ -119,8 +128,8 @@ void put_command(uint8_t slot[16], uint64_t low, uint64_t high) {
 
 void any_command(struct dice *dice, uint8_t slot[16]) {
     /* those that take few rows stand more often than the sweeping ones */
-    static const uint64_t codes[] = {0x01, 0x02, 0x03, 0x03, 0x04, 0x05, 0x05, 0x06, 0x10, 0x11, 0x11, 0x11,
-                                     0x12, 0x12, 0x12, 0x13, 0x13, 0x28, 0x2A, 0x2A, 0x2A, 0x30, 0x46, 0x46};
+    static const uint64_t codes[] = {0x01, 0x02, 0x03, 0x03, 0x04, 0x05, 0x05, 0x06, 0x10, 0x11, 0x11, 0x11, 0x12, 0x12, 0x12, 0x13,
+                                     0x13, 0x20, 0x21, 0x21, 0x22, 0x22, 0x23, 0x23, 0x28, 0x2A, 0x2A, 0x2A, 0x30, 0x46, 0x46};
     uint64_t code = PICK(dice, codes), low = 0, high = 0;
     uint64_t stream = PICK(dice, STREAMS) << 32, vmid = PICK(dice, VMIDS) << 32, asid = PICK(dice, ASIDS) << 48;
     uint64_t leaf = below(dice, 2), range = below(dice, 4) ? below(dice, 10) : below(dice, 32), page = any_page(dice);
@@ -134,6 +143,9 @@ void any_command(struct dice *dice, uint8_t slot[16]) {
     case 0x11: low = vmid | asid; break;
     case 0x12: low = vmid | asid; high = page | leaf; break;
     case 0x13: low = vmid; high = page | leaf; break;
+    case 0x21: low = asid; break;
+    case 0x22: low = asid; high = page | leaf; break;
+    case 0x23: high = page | leaf; break;
     case 0x2A: low = vmid; high = (page & ~UPPER_HALF) | leaf; break;
     case 0x46: low = below(dice, 3) << 12; high = roll(dice); break;
     }
@@ -187,6 +199,8 @@ void any_input(struct dice *dice, struct input *input, struct size most, uint64_
         if (below(dice, 6) == 0) input->kept[1 + 4 * row] = 0; /* an empty row keeps what once stood in its other words */
     }
     input->features = below(dice, 2) ? 15 : below(dice, 16);
+    if (below(dice, 8)) input->features |= HYP_FEATURE;
+    if (below(dice, 2)) input->features |= E2H_SETTING;
     fill_queue(dice, input, UINT64_C(1) << log2size, rarity);
 }
 
@@ -197,11 +211,12 @@ static void start_full(struct input *input, struct size size) {
     input->kept[0] = control_word(2 * slots - 1, slots - 1, CMDQEN, size.log2size);
     input->words = 1 + 4 * size.rows;
     input->bytes = 16 * slots;
-    input->features = 15;
+    input->features = 15 | HYP_FEATURE;
 }
 
 void full_input(struct dice *dice, struct input *input, struct size size, uint64_t rarity) {
     start_full(input, size);
+    if (below(dice, 2)) input->features |= E2H_SETTING;
     for (uint64_t row = 0; row < size.rows; row++)
         some_row(dice, input->kept + 1 + 4 * row);
     fill_queue(dice, input, UINT64_C(1) << size.log2size, rarity);
@@ -219,7 +234,7 @@ void spread_input(struct input *input) {
 
 void damage(struct dice *dice, struct input *input) {
     uint64_t row = below(dice, (input->words - 1) / 4), at = 1 + 4 * row, word = below(dice, 4);
-    switch (below(dice, 9)) {
+    switch (below(dice, 10)) {
     case 0: input->words += 1 + below(dice, 6); break;
     case 1: input->words -= 1 + below(dice, 4); break;
     case 2: case 3: input->kept[0] ^= UINT64_C(1) << below(dice, 64); break;
@@ -228,6 +243,7 @@ void damage(struct dice *dice, struct input *input) {
     case 6: input->kept[at] = (input->kept[at] & ~UINT64_C(0x7E0)) | below(dice, 64) << 5; break;
     case 7: input->bytes += below(dice, 2) ? 16 : UINT64_C(0) - 1; break;
     case 8: input->kept[at + 2 + word % 2] ^= UPPER_HALF; break;
+    case 9: input->kept[at] ^= word % 2 ? EL2_MARK : E2H_MARK; break;
     }
 }
 

@@ -1,6 +1,6 @@
 /* Inputs for the tests of the compiled unit: images, queues and calls from repeatable random numbers, made from the layout that
- * document 01 gives, with the upper half of document 02, T-04, the limits of T-06 and the pending bit of T-08; and recorders, as
- * T-01 has them. Nothing here comes from the unit.
+ * document 01 gives, with the upper half of document 02, T-04, the hypervisor's rows and commands of T-05, the limits of T-06 and
+ * the pending bit of T-08; and recorders, as T-01 has them. Nothing here comes from the unit.
  * Identifiers come from small pools, so that rows and commands meet. */
 #ifndef INPUTS_H
 #define INPUTS_H
@@ -36,6 +36,13 @@ extern const struct size LARGEST, SMALL;
 /* Bits 63:52 of an address: all 0 in the lower half, all 1 in the upper, which stage 1 rows may have as their input. */
 #define UPPER_HALF (~UINT64_C(0) << 52)
 
+/* The marks of the hypervisor's own rows of stage 1, in word 0; and what is among the features for them. */
+#define EL2_MARK (UINT64_C(1) << 11)
+#define E2H_MARK (UINT64_C(1) << 12)
+#define MARKS (EL2_MARK | E2H_MARK)
+#define HYP_FEATURE (UINT64_C(1) << 4)
+#define E2H_SETTING (UINT64_C(1) << 7)
+
 /* A recorder, and parts of its index word; RD and WR stand where the control word has them. */
 enum { MOST_EVENTS = 7, RECORD_BYTES = 32, RECORD_STORES = 5 };
 #define OVERFLOW_FLAG (UINT64_C(1) << 40)
@@ -69,7 +76,7 @@ uint64_t any_width(struct dice *dice);
 void any_row(struct dice *dice, unsigned kind, int last, uint64_t row[4]);
 void some_row(struct dice *dice, uint64_t row[4]);
 
-/* Whether two rows are in use, last-level and could answer the same lookup (document 02, T-02). */
+/* Whether two rows are in use, last-level and could answer the same lookup (document 02, T-02); marked rows answer none. */
 int doubles(const uint64_t one[4], const uint64_t other[4]);
 
 /* A command of 16 bytes; the second may have a wrong bit or code. */

@@ -19,6 +19,9 @@
 _Static_assert(MOST_EVENTS == TAHVENNO_MAX_EVENT_N && RECORD_BYTES == TAHVENNO_RECORD_BYTES, "the header has other limits");
 _Static_assert(MOST_ROWS == TAHVENNO_MAX_ROWS && MOST_LOG2SIZE == TAHVENNO_MAX_LOG2SIZE, "the header has other limits");
 
+_Static_assert(EL2_MARK == TAHVENNO_EL2 && E2H_MARK == TAHVENNO_EL2_E2H, "the header has other marks");
+_Static_assert(HYP_FEATURE == TAHVENNO_HYP && E2H_SETTING == TAHVENNO_E2H, "the header has other features");
+
 /* At how many places a run at the limits is cut. */
 enum { PLACES = 1000 };
 
@@ -29,6 +32,7 @@ static struct {
     uint64_t made_pending, left_pending, raised_pending;
     uint64_t fills, cut_fills, same_words, same_controls, refused[CALLS], done[CALLS];
     uint64_t upper_fills, upper_removed, doubled;
+    uint64_t el2_fills, e2h_fills, marked_beside, el2_removed, e2h_removed;
     uint64_t records, cut_records, same_records, flips, cut_flips, drops;
 } seen;
 
@@ -156,6 +160,8 @@ static void check_order(const struct input *input, const struct store *stores, s
             if (store->word % 4 != 1 || store->value || !kept[store->word] || store->word < lowest)
                 fail("run: store %zu is no clearing of a higher row: word %zu", i + 1, store->word);
             seen.upper_removed += kept[store->word + 2] >= UPPER_HALF;
+            seen.el2_removed += kept[store->word] & EL2_MARK ? 1 : 0;
+            seen.e2h_removed += kept[store->word] & E2H_MARK ? 1 : 0;
             lowest = store->word + 4;
             rows++;
         } else if (store->value == moved) {
@@ -229,9 +235,11 @@ static void check_runs(struct dice *dice, int full, int random) {
     check_run(&input);
     input.words = 5;
     check_run(&input);
-    full_input(dice, &input, SMALL, 1000); /* one command, the first, that takes every stage row */
-    put_command(input.queue + input.bytes - 16, 0x30, 0);
-    check_run(&input);
+    for (uint64_t code = 0x20; code <= 0x30; code += 0x10) { /* one command, the first: it takes marked stage rows, or the others */
+        full_input(dice, &input, SMALL, 1000);
+        put_command(input.queue + input.bytes - 16, code, 0);
+        check_run(&input);
+    }
     for (int i = 0; i < random; i++) {
         any_input(dice, &input, SMALL, 1 + below(dice, 64));
         check_run(&input);
@@ -242,17 +250,26 @@ static void check_runs(struct dice *dice, int full, int random) {
     check_long_run(&input);
 }
 
+/* Whether a row could answer the same lookup, if neither had a mark. */
+static int doubles_unmarked(const uint64_t one[4], const uint64_t other[4]) {
+    const uint64_t new[4] = {one[0] & ~MARKS, one[1], one[2], one[3]};
+    const uint64_t old[4] = {other[0] & ~MARKS, other[1], other[2], other[3]};
+    return doubles(new, old);
+}
+
 /* A fill at each allowance, into a row whose other words hold some of the new ones already. Rows that it would double are emptied
  * first. */
-static void check_fill(struct dice *dice, struct input *input, unsigned kind, int last, unsigned same) {
+static void check_fill(struct dice *dice, struct input *input, const uint64_t new[4], unsigned same) {
     static const uint64_t allowances[] = {0, 1, 2, 3, 4, 5, UINT64_MAX};
     struct call call = {.which = FILL, .row = below(dice, (input->words - 1) / 4)};
     uint64_t *row = input->kept + 1 + 4 * call.row;
     struct store expected[4];
-    any_row(dice, kind, last, call.w);
+    memcpy(call.w, new, sizeof call.w);
     row[0] = 0;
-    for (uint64_t *old = input->kept + 1; old < input->kept + input->words; old += 4)
+    for (uint64_t *old = input->kept + 1; old < input->kept + input->words; old += 4) {
         if (doubles(call.w, old)) old[0] = 0;
+        seen.marked_beside += doubles_unmarked(call.w, old);
+    }
     for (size_t i = 1; i < 4; i++) row[i] = same >> i & 1 ? call.w[i] : ~call.w[i];
     for (size_t i = 0; i < 4; i++) expected[i] = (struct store){1 + 4 * call.row + (i + 1) % 4, call.w[(i + 1) % 4]};
     for (size_t i = 0; i < sizeof allowances / sizeof allowances[0]; i++) {
@@ -262,18 +279,39 @@ static void check_fill(struct dice *dice, struct input *input, unsigned kind, in
         for (size_t store = 0; store < count; store++) seen.same_words += same >> (store + 1) % 4 & 1;
         seen.fills++;
         seen.upper_fills += call.w[2] >= UPPER_HALF;
+        seen.el2_fills += call.w[0] & EL2_MARK ? 1 : 0;
+        seen.e2h_fills += call.w[0] & E2H_MARK ? 1 : 0;
         seen.cut_fills += count < 4;
+    }
+}
+
+/* A marked row beside rows that are equal to it, and a guest's row beside them: none is doubled (document 02, T-05). */
+static void check_marked(struct dice *dice, uint64_t mark) {
+    static struct input input;
+    uint64_t new[4];
+    do any_row(dice, 2, 1, new);
+    while (!(new[0] & mark));
+    for (int guest = 0; guest < 2; guest++) {
+        any_input(dice, &input, LARGEST, 8);
+        for (size_t at = 1; at < input.words; at += 4) memcpy(input.kept + at, new, sizeof new);
+        if (guest) new[0] &= ~MARKS;
+        check_fill(dice, &input, new, 0);
     }
 }
 
 static void check_fills(struct dice *dice, int rounds) {
     static struct input input;
-    for (int i = 0; i < rounds; i++)
+    uint64_t new[4];
+    for (int i = 0; i < rounds; i++) {
         for (unsigned kind = 0; kind < 4; kind++)
             for (unsigned same = 0; same < 16; same += 2) {
                 any_input(dice, &input, LARGEST, 8);
-                check_fill(dice, &input, kind, i % 2, same);
+                any_row(dice, kind, i % 2, new);
+                check_fill(dice, &input, new, same);
             }
+        check_marked(dice, EL2_MARK);
+        check_marked(dice, E2H_MARK);
+    }
 }
 
 /* The control word that a control call has to store. */
@@ -399,6 +437,9 @@ static void report(void) {
     printf("stores: %" PRIu64 " of the fills and %" PRIu64 " of the rows removed have an address of the upper half\n",
            seen.upper_fills, seen.upper_removed);
     printf("stores: %" PRIu64 " fills are refused since they would double a row\n", seen.doubled);
+    printf("stores: %" PRIu64 " and %" PRIu64 " of the fills are of EL2 and of EL2-E2H rows, and %" PRIu64
+           " rows would be doubled but for a mark; %" PRIu64 " and %" PRIu64 " such rows are removed\n",
+           seen.el2_fills, seen.e2h_fills, seen.marked_beside, seen.el2_removed, seen.e2h_removed);
     for (enum which which = RUN; which < CALLS; which++) {
         if (which > FILL) printf("stores: %s: %" PRIu64 " carried out, ", CALL_NAMES[which], seen.done[which]);
         else seen.done[which] = 1, printf("stores: %s: ", CALL_NAMES[which]);

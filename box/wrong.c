@@ -86,8 +86,17 @@ static const struct due *stores_of(const uint64_t *kept, size_t words, const uin
     return due;
 }
 
+/* EL2 rows before EL2-E2H rows of the same command, as two scans would clear them. */
+static void by_mark(const uint64_t *kept, struct due *due, size_t count) {
+    for (size_t i = 1; i < count; i++)
+        for (size_t k = i; k > 0 && due[k - 1].word && due[k].word; k--)
+            if (kept[due[k - 1].word] & E2H_MARK && kept[due[k].word] & EL2_MARK) swap(&due[k - 1], &due[k]);
+            else break;
+}
+
 /* Puts a wrong order on what a run stores. */
-static void reorder(struct due *due, size_t count) {
+static void reorder(const uint64_t *kept, struct due *due, size_t count) {
+    if (fault("run-by-mark")) by_mark(kept, due, count);
     for (size_t i = 1; i < count; i++) {
         int rows = due[i - 1].word && due[i].word;
         if (fault("run-rows-swapped") && rows) {
@@ -147,7 +156,7 @@ uint64_t __wrap_tahvenno_run(uint64_t *kept, size_t words, const uint8_t *queue,
     }
     size_t count = answer[2];
     memcpy(due, stores_of(kept, words, queue, bytes, features, count), count * sizeof due[0]);
-    reorder(due, count);
+    reorder(kept, due, count);
     if (fault("run-queue")) *(volatile uint8_t *)(uintptr_t)queue = *queue;
     if (fault("run-beyond")) store(kept, words, 0);
     if (fault("run-written-back")) write_back(kept, words, due, count);
@@ -167,6 +176,7 @@ static void store_fill(uint64_t *row, const uint64_t w[4], uint64_t count) {
     for (uint64_t i = 0; i < count; i++) {
         size_t at = order[i];
         if (fault("fill-sparing") && row[at] == w[at]) continue;
+        if (fault("fill-mark-apart") && at == 0 && w[0] & MARKS) store(row, at, w[at] & ~MARKS);
         if (fault("fill-in-halves") && at == 3) in_halves(row, at, w[at]);
         else store(row, at, w[at]);
         if (fault("fill-doubled") && at == 0) store(row, at, w[at]);

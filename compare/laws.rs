@@ -2,6 +2,7 @@
 //! before a law is asked, so that a broken one is mostly the model's fault.
 
 mod events;
+mod hyp;
 
 use crate::call::{Call, Reply, CUT, FIRST_EVENT, RAISED};
 use crate::model::control::Control;
@@ -10,13 +11,17 @@ use crate::model::image::used_rows;
 /// The law that a call broke, if any.
 pub fn broken(before: &[u64], call: Call, reply: Reply, after: &[u64]) -> Option<&'static str> {
     if reply.number != 0 {
-        return (before != after).then_some("a refusal stored something");
+        let stored = (before != after).then_some("a refusal stored something");
+        return stored.or_else(|| hyp::refused(before, call, reply));
     }
     match call {
         _ if call.index() >= FIRST_EVENT => events::broken(before, call, reply, after),
         Call::Run {
-            queue, allowance, ..
-        } => run(before, queue, allowance, reply, after),
+            queue,
+            features,
+            allowance,
+        } => run(before, queue, allowance, reply, after)
+            .or_else(|| hyp::run(before, (queue, features), reply, after)),
         Call::Translate(_) | Call::State => {
             (before != after).then_some("a call that only reads stored something")
         }

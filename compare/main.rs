@@ -81,7 +81,9 @@ fn compare(seed: u64, wrong: Option<Wrong>) -> ExitCode {
     phases::pending::cases::cases(&mut checker);
     phases::upper::cases::cases(&mut checker);
     phases::doubles::cases::cases(&mut checker);
+    phases::hyp::cases::cases(&mut checker);
     phases::events::cases::cases(&mut checker);
+    phases::hyp::hyp(&mut checker);
     phases::events::events(&mut checker);
     phases::limits::limits(&mut checker);
     phases::reasons::reasons(&mut checker);

@@ -3,6 +3,7 @@
 mod commands;
 mod doubles;
 mod events;
+mod hyp;
 mod pending;
 mod upper;
 
@@ -10,6 +11,7 @@ use crate::call::{Call, Reply, FIRST_EVENT, NAMES};
 use commands::Commands;
 use doubles::Doubles;
 use events::Events;
+use hyp::Hyp;
 use pending::Pending;
 use upper::Upper;
 
@@ -42,6 +44,7 @@ pub struct Tally {
     pub pending: Pending,
     pub upper: Upper,
     pub doubles: Doubles,
+    pub hyp: Hyp,
     pub events: Events,
     configs: [u64; 8],
     config_hits: [u64; 8],
@@ -87,6 +90,7 @@ impl Tally {
         self.pending.print(&mut table);
         self.upper.print(&mut table);
         self.doubles.print(&mut table);
+        self.hyp.print(&mut table);
         self.events.print(&mut table);
         table.missing
     }

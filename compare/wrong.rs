@@ -3,8 +3,11 @@
 
 mod doubles;
 mod events;
+mod forms;
+mod hyp;
 mod pending;
 mod reasons;
+mod seen;
 mod upper;
 
 use crate::call::{Call, FIRST_EVENT, NAMES, NUMBERS};
@@ -45,6 +48,8 @@ enum Fault {
     Doubles(doubles::Fault),
     /// The event recorder does something else.
     Events(events::Fault),
+    /// The hypervisor's rows and commands are others.
+    Hyp(hyp::Fault),
 }
 
 pub struct Wrong {
@@ -90,6 +95,14 @@ pub fn all() -> Vec<Wrong> {
     add("04: Range of four bits".into(), Fault::Read(0x04, 1 << 4));
     add("03: Leaf not read".into(), Fault::Read(0x03, 1));
     add("a queue's length of 16 bits".into(), Fault::Wrapped);
+    all.extend(requests());
+    all
+}
+
+/// Those of document 02's requests.
+fn requests() -> Vec<Wrong> {
+    let mut all = Vec::new();
+    let mut add = |name: String, fault| all.push(Wrong { name, fault });
     for (name, fault) in reasons::ALL {
         add(name.into(), Fault::Mistold(fault));
     }
@@ -104,6 +117,9 @@ pub fn all() -> Vec<Wrong> {
     }
     for (name, fault) in events::all() {
         add(name, Fault::Events(fault));
+    }
+    for (name, fault) in hyp::all() {
+        add(name, Fault::Hyp(fault));
     }
     all
 }
@@ -153,6 +169,7 @@ impl Wrong {
         match self.fault {
             Fault::Upper(fault) => return fault.perform(call, kept, answer),
             Fault::Doubles(fault) => return fault.perform(call, kept, answer),
+            Fault::Hyp(fault) => return fault.perform(call, kept, answer),
             _ => (),
         }
         let before = kept.inner().to_vec();

@@ -63,8 +63,22 @@
  * and a row in use are both last-level and of the same kind, and have the same STREAM (STE), the same STREAM and SUBSTREAM (CD), or
  * a common input address and the same VMID (stage 2, and stage 1 if also ASID is the same or either is GLOBAL). Then the
  * row is there already, or it is stale and has to be removed first, or the walk went wrong; docs/BOX.md has what to do. 11 names
- * no row. Rows that are not last-level double nothing, nor does what a cut fill left. A kept memory that holds doubles already
- * is accepted.
+ * no row. Rows that are not last-level double nothing, nor does what a cut fill left. Marked rows (below) are neither refused with
+ * 11 nor a reason for it. A kept memory that holds doubles already is accepted.
+ *
+ * THE HYPERVISOR'S ROWS are rows of stage 1 with a mark: EL2 for mappings without ASIDs, EL2_E2H for those with them. They are kept
+ * in the same table as the guests', and only these commands remove them (codes in hexadecimal):
+ *
+ *   20  every marked row, whatever E2H is
+ *   21  EL2_E2H rows of the ASID that are not GLOBAL, whatever E2H is
+ *   22  by address: where E2H is set, EL2_E2H rows of the ASID and GLOBAL ones; else EL2 rows, and the ASID is not compared
+ *   23  by address: where E2H is set, EL2_E2H rows of any ASID; else EL2 rows
+ *
+ * Each of them is illegal (TAHVENNO_FEATURE_ABSENT) unless `features` has both TAHVENNO_HYP and TAHVENNO_S1P. Bits 47:32 are
+ * Reserved in all four, bits 63:48 in 20 and 23; ASID, Leaf and Address stand where 11, 12 and 13 have them, Leaf spares rows that
+ * are not last-level, and an ASID of more than 8 bits without TAHVENNO_ASID16 makes 21 and 22 remove nothing. 10 to 13, 28 and 30
+ * leave marked rows alone, with TAHVENNO_HYP or without, and translate does not see them. That a marked row is well formed does
+ * not depend on the features. docs/BOX.md says what that leaves to the caller.
  *
  * THE INTERRUPT. A guest asks by CMD_SYNC with CS 1 to be interrupted once the commands before it are done. The store that moves
  * RD past such a command also sets PENDING in the control word, and nothing but clear_pending takes it away. So whenever PENDING
@@ -90,8 +104,8 @@
  *
  *   1. Look at RD, ERR and active by tahvenno_state, and tell the guest what it was not told.
  *   2. Drop the fill that was under way, and whatever was walked before the cut.
- *   3. Call run, with the same queue and features, until it does not end Cut. The memory is then that of a run that was never
- *      cut.
+ *   3. Call run, with the same queue and features (E2H is one of them), until it does not end Cut. The memory is then that of a
+ *      run that was never cut.
  *   4. If PENDING is set, raise the interrupt, then call clear_pending; no run comes between the two.
  *   5. Walk the guest's tables again for what is missing, and fill.
  *
@@ -198,14 +212,15 @@ extern "C" {
  *   stage 1              VMID, ASID, GLOBAL, SPAN (12 to 48); word 2, the input address, a multiple of 2^SPAN whose bits 63:52
  *                        are all 0 or all 1; if last-level also word 3, the output address, a multiple of 2^SPAN below 2^52,
  *                        and MEMATTR, SH, HINTS
+ *   stage 1, marked      EL2: as stage 1, without VMID, ASID and GLOBAL. EL2_E2H: as stage 1, without VMID. Never both marks
  *   stage 2              as stage 1, without ASID, GLOBAL and HINTS, and with word 2 below 2^52
  *
  * So the input addresses of stage 1 have a lower half, below 2^52, and an upper one, the last 2^52 of the 64-bit space; a span lies
  * in one of them, and an address in neither is covered by no row. What comes out of either stage is below 2^52.
  *
- * Only last-level rows answer a transaction, and of several the lowest. The payload of an STE row overrides what comes in:
- * MTCFG 1 takes STE_MEMATTR. SHCFG 0 NSH, 1 as it comes, 2 OSH, 3 ISH. ALLOCCFG, if its bit 3 is set, puts its bits 2, 1, 0 as
- * RA, WA, TR into both halves that are cacheable. INSTCFG 2 data, 3 instruction, else as it comes; a write is always data.
+ * Only last-level rows without a mark answer a transaction, and of several the lowest. The payload of an STE row overrides what
+ * comes in: MTCFG 1 takes STE_MEMATTR. SHCFG 0 NSH, 1 as it comes, 2 OSH, 3 ISH. ALLOCCFG, if its bit 3 is set, puts its bits 2, 1,
+ * 0 as RA, WA, TR into both halves that are cacheable. INSTCFG 2 data, 3 instruction, else as it comes; a write is always data.
  * PRIVCFG 2 unprivileged, 3 privileged, else as it comes.
  */
 /* word 0 */
@@ -214,6 +229,8 @@ extern "C" {
 #define TAHVENNO_LAST_LEVEL TAHVENNO_BITS(3, 3)
 #define TAHVENNO_GLOBAL TAHVENNO_BITS(4, 4)
 #define TAHVENNO_SPAN TAHVENNO_BITS(10, 5)
+#define TAHVENNO_EL2 TAHVENNO_BITS(11, 11)
+#define TAHVENNO_EL2_E2H TAHVENNO_BITS(12, 12)
 #define TAHVENNO_VMID TAHVENNO_BITS(31, 16)
 #define TAHVENNO_ASID TAHVENNO_BITS(47, 32)
 /* word 0, the payload of a last-level STE row */
@@ -263,11 +280,13 @@ enum {
     TAHVENNO_OUTER_TR = 32
 };
 
-/* Bits of `features`: what the emulated unit has. The others are not looked at. */
+/* Bits of `features`: what the emulated unit has, and E2H as the guest has set it (SMMU_CR2.E2H). The others are not looked at. */
 #define TAHVENNO_S1P UINT64_C(1)
 #define TAHVENNO_S2P UINT64_C(2)
 #define TAHVENNO_ASID16 UINT64_C(4)
 #define TAHVENNO_VMID16 UINT64_C(8)
+#define TAHVENNO_HYP UINT64_C(16)
+#define TAHVENNO_E2H UINT64_C(128)
 
 /* How a run ends, in answer[0]. */
 enum { TAHVENNO_OFF, TAHVENNO_HELD, TAHVENNO_EMPTY, TAHVENNO_RAISED, TAHVENNO_CUT };

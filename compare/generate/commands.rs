@@ -5,15 +5,24 @@ use super::world::World;
 use crate::limits::{ADDRESS, ROWS, SLOTS};
 use crate::model::command::{decode, Features};
 
-pub const CODES: [u64; 14] = [
-    0x01, 0x02, 0x03, 0x04, 0x05, 0x06, 0x10, 0x11, 0x12, 0x13, 0x28, 0x2A, 0x30, 0x46,
+pub const CODES: [u64; 18] = [
+    0x01, 0x02, 0x03, 0x04, 0x05, 0x06, 0x10, 0x11, 0x12, 0x13, 0x20, 0x21, 0x22, 0x23, 0x28, 0x2A,
+    0x30, 0x46,
 ];
+/// Those of the hypervisor's own rows.
+pub const HYP_CODES: [u64; 4] = [0x20, 0x21, 0x22, 0x23];
 
 /// Codes that take few rows at a time stand more often than the sweeping ones.
-const USUAL: [u64; 24] = [
+const USUAL: [u64; 30] = [
     0x01, 0x02, 0x03, 0x03, 0x04, 0x04, 0x05, 0x05, 0x06, 0x10, 0x11, 0x11, 0x11, 0x12, 0x12, 0x12,
-    0x13, 0x13, 0x28, 0x2A, 0x2A, 0x30, 0x46, 0x46,
+    0x13, 0x13, 0x20, 0x21, 0x21, 0x22, 0x22, 0x23, 0x28, 0x2A, 0x2A, 0x30, 0x46, 0x46,
 ];
+
+/// The bits of the features: S1P, S2P, ASID16 and VMID16; Hyp; and the setting E2H.
+pub const FOUR: u64 = 0b1111;
+pub const HYP: u64 = 1 << 4;
+pub const E2H: u64 = 1 << 7;
+pub const KNOWN: u64 = FOUR | HYP | E2H;
 
 /// Low and high word.
 pub type Command = (u64, u64);
@@ -38,6 +47,7 @@ pub fn of_code(random: &mut Random, world: &World, code: u64) -> Command {
         0x03 | 0x04 | 0x06 => stream,
         0x05 => stream | world.substream(random) << 12,
         0x11 | 0x12 => vmid | asid,
+        0x21 | 0x22 => asid,
         0x10 | 0x13 | 0x28 | 0x2A => vmid,
         0x46 => (random.next() & 0xFFFF_FFFF_0FC0_0000) | random.below(3) << 12,
         _ => 0,
@@ -46,7 +56,7 @@ pub fn of_code(random: &mut Random, world: &World, code: u64) -> Command {
         0x01 | 0x02 | 0x46 => random.next(),
         0x03 | 0x05 => leaf,
         0x04 => range,
-        0x12 | 0x13 => high_page | leaf,
+        0x12 | 0x13 | 0x22 | 0x23 => high_page | leaf,
         0x2A => page % ADDRESS | leaf,
         _ => 0,
     };
@@ -107,17 +117,28 @@ pub fn queue(random: &mut Random, world: &World, features: u64, slots: u64) -> V
     queue_with(random, world, features, slots, rarity)
 }
 
-/// Features, often all four; now and then with bits set that nobody looks at.
+/// Each combination of the features and E2H.
+pub fn combinations() -> impl Iterator<Item = u64> {
+    (0..=KNOWN).filter(|bits| bits & !KNOWN == 0)
+}
+
+/// Hyp, mostly there, and E2H, set or not.
+pub fn hyp(random: &mut Random) -> u64 {
+    random.pick(&[0, E2H, HYP, HYP, HYP, HYP | E2H, HYP | E2H, HYP | E2H])
+}
+
+/// Features, often all of them; now and then with bits set that nobody looks at.
 pub fn features(random: &mut Random) -> u64 {
     let four = if random.once_in(2) {
-        0b1111
+        FOUR
     } else {
         random.below(16)
     };
+    let known = four | hyp(random);
     if random.once_in(8) {
-        four | random.next() << 4
+        known | random.next() & !KNOWN
     } else {
-        four
+        known
     }
 }
 

@@ -1,6 +1,7 @@
 //! Memories and queues with something wrong: mostly refused, sometimes not.
 
 use super::random::Random;
+use super::rows::{EL2, EL2_E2H};
 use crate::limits::{ADDRESS, UPPER};
 
 /// A bit of any word, the control word's as likely as all others'.
@@ -48,6 +49,15 @@ fn misplace(random: &mut Random, kept: &mut [u64]) {
     }
 }
 
+/// Either mark or both, put on some row or taken from it.
+fn mismark(random: &mut Random, kept: &mut [u64]) {
+    let rows = (kept.len() as u64 - 1) / 4;
+    if rows > 0 {
+        let place = 1 + 4 * random.below(rows) as usize;
+        kept[place] ^= random.pick(&[EL2, EL2_E2H, EL2 | EL2_E2H]);
+    }
+}
+
 /// A word that means nothing.
 fn noise(random: &mut Random, kept: &mut [u64]) {
     kept[random.below(kept.len() as u64) as usize] = random.next();
@@ -66,12 +76,13 @@ fn relength(random: &mut Random, kept: &mut Vec<u64>) {
 /// Damages an accepted memory in one way or two, so that orders are seen.
 pub fn damage(random: &mut Random, kept: &mut Vec<u64>) {
     for _ in 0..random.between(1, 2) {
-        match random.below(14) {
+        match random.below(16) {
             0 | 1 => relength(random, kept),
             2..=5 => flip(random, kept),
             6..=8 => flip_head(random, kept),
             9 | 10 => edge_span(random, kept),
             11 | 12 => misplace(random, kept),
+            13 | 14 => mismark(random, kept),
             _ => noise(random, kept),
         }
         if kept.is_empty() {

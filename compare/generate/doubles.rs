@@ -2,7 +2,7 @@
 //! double a row of the memory or nearly do.
 
 use super::random::Random;
-use super::rows::{any_row, cd_table, ste_block, Words};
+use super::rows::{any_row, cd_table, marked, ste_block, Words, EL2, EL2_E2H, MARKS};
 use super::world::World;
 use crate::limits::{ADDRESS, BLOCKS, SPANS, UPPER};
 use crate::model::image::rows;
@@ -28,7 +28,9 @@ pub fn fresh(random: &mut Random, world: &World, kept: &[u64]) -> Words {
         Kind::Ste | Kind::Cd if Row(words).last_level() => {
             words[1] = with_part(words[1], 31, 0, any)
         }
-        Kind::Stage1 | Kind::Stage2 => words[0] = with_part(words[0], 31, 16, any),
+        Kind::Stage1 | Kind::Stage2 if !Row(words).marked() => {
+            words[0] = with_part(words[0], 31, 16, any)
+        }
         _ => (),
     }
     words
@@ -66,11 +68,12 @@ fn near_stream(random: &mut Random, row: Row) -> Words {
 }
 
 /// The same page; a part of it or more; what touches it; another VMID or ASID, or
-/// global; not last-level; the other half, or the other stage.
+/// global; not last-level; the other half, or the other stage; with another mark or
+/// with none.
 fn near_page(random: &mut Random, row: Row) -> Words {
     let mut words = row.0;
     let first = row.kind() == Kind::Stage1;
-    match random.below(12) {
+    match random.below(15) {
         0 | 1 => words = spanned(random, row),
         2 | 3 => words = touching(random, row),
         4 => words[0] ^= 1 << random.between(16, 31),
@@ -80,6 +83,8 @@ fn near_page(random: &mut Random, row: Row) -> Words {
         8 => words = [with_part(words[0] ^ 1 << 3, 63, 48, 0), 0, words[2], 0],
         9 if first => words[2] ^= UPPER,
         10 => words = other_stage(row),
+        11 | 12 if first => words = marked(words, random.pick(&MARKS)),
+        13 if first => words[0] &= !(EL2 | EL2_E2H),
         _ => (),
     }
     words

@@ -11,6 +11,11 @@ pub const STAGE2: u64 = 3;
 pub const TYPES: [u64; 13] = [0, 1, 2, 3, 5, 6, 7, 9, 10, 11, 13, 14, 15];
 pub const SHARES: [u64; 3] = [0, 2, 3];
 
+/// The marks of the hypervisor's own stage 1 rows.
+pub const EL2: u64 = 1 << 11;
+pub const EL2_E2H: u64 = 1 << 12;
+pub const MARKS: [u64; 2] = [EL2, EL2_E2H];
+
 const VALID: u64 = 1;
 const LAST: u64 = 1 << 3;
 
@@ -79,6 +84,18 @@ impl Reach {
     }
 }
 
+/// A stage 1 row with a mark instead of what it has of VMID and, under EL2, of ASID
+/// and global.
+pub fn marked([word, one, input, output]: Words, mark: u64) -> Words {
+    let bare = word & !(0xFFFF << 16 | EL2 | EL2_E2H);
+    let own = if mark == EL2 {
+        bare & !(0xFFFF << 32 | 1 << 4)
+    } else {
+        bare
+    };
+    [own | mark, one, input, output]
+}
+
 /// MTCFG, MemAttr, SHCFG, ALLOCCFG, INSTCFG and PRIVCFG.
 pub fn ste_payload(random: &mut Random) -> u64 {
     let memattr = random.pick(&TYPES);
@@ -132,17 +149,22 @@ pub fn any_row(random: &mut Random, world: &World) -> Words {
         draw => {
             let kind = if draw < 13 { STAGE1 } else { STAGE2 };
             let reach = reach(random, world, kind);
-            if random.once_in(3) {
+            let row = if random.once_in(3) {
                 reach.table()
             } else {
                 reach.page(world.page(random), stage_payload(random, kind))
+            };
+            match kind == STAGE1 && random.once_in(3) {
+                true => marked(row, random.pick(&MARKS)),
+                false => row,
             }
         }
     }
 }
 
 /// Rows through which a transaction at `page` of the stream gets an address,
-/// unless lower rows answer first; in the upper half only if stage 1 is there.
+/// unless lower rows answer first; in the upper half only if stage 1 is there. Now
+/// and then the hypervisor has a row at that page, too.
 pub fn chain(random: &mut Random, world: &World, stream: u64, page: u64) -> Vec<Words> {
     let (vmid, asid) = (world.vmid(random), world.asid(random));
     let config = random.pick(&[4, 5, 6, 7, 7, 7]);
@@ -164,10 +186,15 @@ pub fn chain(random: &mut Random, world: &World, stream: u64, page: u64) -> Vec<
         page: middle,
         ..reach(random, world, STAGE2)
     };
-    vec![
+    let mut rows = vec![
         ste(stream, vmid, config, ste_payload(random)),
         cd(stream, world.substream(random), asid),
         first.page(output, stage_payload(random, STAGE1)),
         second.page(world.page(random), stage_payload(random, STAGE2)),
-    ]
+    ];
+    if random.once_in(3) {
+        let own = first.page(world.page(random), stage_payload(random, STAGE1));
+        rows.push(marked(own, random.pick(&MARKS)));
+    }
+    rows
 }

@@ -1,27 +1,31 @@
 //! Commands: which are legal, what a legal one does (document 01, Commands and
-//! their scopes), and why another is not (document 02, T-09).
+//! their scopes; document 02, T-05), and why another is not (T-09).
 
 use super::reason::Reason;
 use super::scope::{Page, Scope};
 use super::words::{bit, part};
 
-/// What the host says that the emulated unit can do.
+/// What the host says that the emulated unit can do, and how E2H is set.
 #[derive(Clone, Copy, Debug, PartialEq, Eq)]
 pub struct Features {
     pub s1p: bool,
     pub s2p: bool,
     pub asid16: bool,
     pub vmid16: bool,
+    pub hyp: bool,
+    pub e2h: bool,
 }
 
 impl Features {
-    /// From the low four bits of the C interface's number.
+    /// From the C interface's number.
     pub fn from_bits(bits: u64) -> Features {
         Features {
             s1p: bit(bits, 0),
             s2p: bit(bits, 1),
             asid16: bit(bits, 2),
             vmid16: bit(bits, 3),
+            hyp: bit(bits, 4),
+            e2h: bit(bits, 7),
         }
     }
 }
@@ -43,6 +47,7 @@ const STREAM: Bits = (63, 32);
 const LEAF: Bits = (64, 64);
 const VMID: Bits = (47, 32);
 const ASID: Bits = (63, 48);
+const ADDRESS: Bits = (127, 76);
 
 /// The parts named for a code beside the code itself; None for other codes.
 /// Bits that aren't looked at are named too: they make nothing illegal.
@@ -55,10 +60,13 @@ fn named(code: u64) -> Option<&'static [Bits]> {
         0x06 => &[STREAM],
         0x10 | 0x28 => &[VMID],
         0x11 => &[VMID, ASID],
-        0x12 => &[VMID, ASID, LEAF, (127, 76)],
-        0x13 => &[VMID, LEAF, (127, 76)],
+        0x12 => &[VMID, ASID, LEAF, ADDRESS],
+        0x13 => &[VMID, LEAF, ADDRESS],
+        0x20 | 0x30 => &[],
+        0x21 => &[ASID],
+        0x22 => &[ASID, LEAF, ADDRESS],
+        0x23 => &[LEAF, ADDRESS],
         0x2A => &[VMID, LEAF, (115, 76)],
-        0x30 => &[],
         0x46 => &[(13, 12), (27, 22), (63, 32), (127, 64)],
         _ => return None,
     })
@@ -76,10 +84,11 @@ fn reserved_bit_set(low: u64, high: u64, names: &[Bits], features: Features) -> 
     rest != 0
 }
 
-/// The feature that a code can't do without.
+/// The features that a code can't do without.
 fn supported(code: u64, features: Features) -> bool {
     match code {
         0x05 | 0x06 | 0x10..=0x13 => features.s1p,
+        0x20..=0x23 => features.s1p && features.hyp,
         0x28 | 0x2A => features.s2p,
         _ => true,
     }
@@ -116,12 +125,13 @@ pub fn decode(low: u64, high: u64, features: Features) -> Result<Effect, Reason>
         0x01 | 0x02 => Effect::Nothing,
         0x46 if part(low, 13, 12) == 1 => Effect::Signal,
         0x46 => Effect::Nothing,
-        _ => Effect::Remove(scope(code, low, high)),
+        _ => Effect::Remove(scope(code, low, high, features)),
     })
 }
 
 /// The rows that a legal removing command is after.
-fn scope(code: u64, low: u64, high: u64) -> Scope {
+fn scope(code: u64, low: u64, high: u64, features: Features) -> Scope {
+    // 20 to 23 have no VMID: it is Reserved there, and so it is 0.
     let vmid = part(low, 47, 32);
     let asid = part(low, 63, 48);
     let leaf = bit(high, 0);
@@ -138,6 +148,11 @@ fn scope(code: u64, low: u64, high: u64) -> Scope {
         0x11 => Scope::Space { vmid, asid },
         0x12 => Scope::Stage1Page(page, Some(asid)),
         0x13 => Scope::Stage1Page(page, None),
+        0x20 => Scope::Hypervisor,
+        0x21 => Scope::HypervisorSpace { asid },
+        0x22 if features.e2h => Scope::El2E2hPage(page, Some(asid)),
+        0x23 if features.e2h => Scope::El2E2hPage(page, None),
+        0x22 | 0x23 => Scope::El2Page(page),
         0x28 => Scope::BothStages { vmid },
         0x2A => Scope::Stage2Page(page),
         _ => Scope::Everything,

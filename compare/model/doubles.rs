@@ -1,12 +1,12 @@
-//! Two rows that could answer the same lookup (document 02, T-02).
+//! Two rows that could answer the same lookup (document 02, T-02 and T-05).
 
 use super::row::{Kind, Row};
 
 impl Row {
     /// Whether both are in use and last-level, and of one kind that could answer
-    /// the same lookup. Only last-level rows answer.
+    /// the same lookup. Only last-level rows without a mark answer.
     pub fn doubles(&self, other: &Row) -> bool {
-        let answer = |row: &Row| row.used() && row.last_level();
+        let answer = |row: &Row| row.used() && row.last_level() && !row.marked();
         answer(self) && answer(other) && self.kind() == other.kind() && self.same_lookup(other)
     }
 

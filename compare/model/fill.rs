@@ -1,4 +1,4 @@
-//! Filling a row (document 01, One run; document 02, T-02).
+//! Filling a row (document 01, One run; document 02, T-02 and T-05).
 
 use super::image;
 use super::refusal::Refusal;

@@ -1,5 +1,5 @@
 //! Rows: their parts, and which are well formed (document 01, The kept memory;
-//! document 02, T-04).
+//! document 02, T-04 and T-05).
 
 use super::attributes::{memattr_ok, sh_ok, Attributes};
 use super::words::{bit, part, with_part};
@@ -11,6 +11,15 @@ pub enum Kind {
     Cd,
     Stage1,
     Stage2,
+}
+
+/// Whose mappings a stage 1 row is of: a guest's, or as its mark says the
+/// hypervisor's own, without ASIDs or with them.
+#[derive(Clone, Copy, Debug, PartialEq, Eq)]
+pub enum Regime {
+    Guest,
+    El2,
+    El2E2h,
 }
 
 /// The four words of a row.
@@ -38,6 +47,21 @@ impl Row {
 
     pub fn global(&self) -> bool {
         bit(self.0[0], 4)
+    }
+
+    /// None if the row has both marks, which no row may have.
+    pub fn regime(&self) -> Option<Regime> {
+        match (bit(self.0[0], 11), bit(self.0[0], 12)) {
+            (false, false) => Some(Regime::Guest),
+            (true, false) => Some(Regime::El2),
+            (false, true) => Some(Regime::El2E2h),
+            (true, true) => None,
+        }
+    }
+
+    /// Whether the row has a mark; of the rows of a memory only those of stage 1 do.
+    pub fn marked(&self) -> bool {
+        self.regime() != Some(Regime::Guest)
     }
 
     pub fn span(&self) -> u64 {
@@ -143,10 +167,22 @@ impl Row {
         let mut rest = self.0;
         // Valid, kind and last-level belong to every row in use.
         rest[0] = with_part(rest[0], 3, 0, 0);
-        for &(word, high, low) in named(self.kind(), self.last_level()) {
+        let own = named(self.kind(), self.last_level()).iter();
+        for &(word, high, low) in own.chain(self.space()) {
             rest[word] = with_part(rest[word], high, low, 0);
         }
         rest != [0; 4]
+    }
+
+    /// The parts of a stage 1 row that say whose it is. Of two marks neither is
+    /// named, nor is a mark on another kind.
+    fn space(&self) -> &'static [Part] {
+        match (self.kind(), self.regime()) {
+            (Kind::Stage1, Some(Regime::Guest)) => &[VMID, ASID, GLOBAL],
+            (Kind::Stage1, Some(Regime::El2)) => &[EL2],
+            (Kind::Stage1, Some(Regime::El2E2h)) => &[EL2_E2H, ASID, GLOBAL],
+            _ => &[],
+        }
     }
 }
 
@@ -158,6 +194,8 @@ const HIGHER: u64 = 0xFFF;
 type Part = (usize, u32, u32);
 const GLOBAL: Part = (0, 4, 4);
 const SPAN: Part = (0, 10, 5);
+const EL2: Part = (0, 11, 11);
+const EL2_E2H: Part = (0, 12, 12);
 const VMID: Part = (0, 31, 16);
 const ASID: Part = (0, 47, 32);
 const STREAM: Part = (1, 31, 0);
@@ -169,14 +207,15 @@ const OVERRIDES: Part = (0, 62, 48);
 const TYPE_TO_HINTS: Part = (0, 59, 48);
 const TYPE_AND_SH: Part = (0, 53, 48);
 
+/// What a row of the kind has, but for what says whose a stage 1 row is.
 fn named(kind: Kind, last_level: bool) -> &'static [Part] {
     match (kind, last_level) {
         (Kind::Ste, true) => &[VMID, STREAM, CONFIG, OVERRIDES],
         (Kind::Ste, false) => &[STREAM, SPAN],
         (Kind::Cd, true) => &[ASID, STREAM, SUBSTREAM],
         (Kind::Cd, false) => &[STREAM],
-        (Kind::Stage1, true) => &[VMID, ASID, GLOBAL, SPAN, INPUT, OUTPUT, TYPE_TO_HINTS],
-        (Kind::Stage1, false) => &[VMID, ASID, GLOBAL, SPAN, INPUT],
+        (Kind::Stage1, true) => &[SPAN, INPUT, OUTPUT, TYPE_TO_HINTS],
+        (Kind::Stage1, false) => &[SPAN, INPUT],
         (Kind::Stage2, true) => &[VMID, SPAN, INPUT, OUTPUT, TYPE_AND_SH],
         (Kind::Stage2, false) => &[VMID, SPAN, INPUT],
     }

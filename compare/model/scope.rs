@@ -1,6 +1,7 @@
-//! Which rows a removing command takes (document 01, Commands and their scopes).
+//! Which rows a removing command takes (document 01, Commands and their scopes;
+//! document 02, T-05).
 
-use super::row::{Kind, Row};
+use super::row::{Kind, Regime, Row};
 
 #[derive(Clone, Copy, Debug, PartialEq, Eq)]
 pub enum Scope {
@@ -24,6 +25,14 @@ pub enum Scope {
     Space { vmid: u64, asid: u64 },
     /// Code 12, and 13 without an ASID.
     Stage1Page(Page, Option<u64>),
+    /// Code 20.
+    Hypervisor,
+    /// Code 21.
+    HypervisorSpace { asid: u64 },
+    /// Codes 22 and 23 where E2H isn't set.
+    El2Page(Page),
+    /// Code 22 where E2H is set, and 23 without an ASID.
+    El2E2hPage(Page, Option<u64>),
     /// Code 28.
     BothStages { vmid: u64 },
     /// Code 2A.
@@ -59,20 +68,40 @@ impl Scope {
                 leaf,
             } => kind == Kind::Cd && row.stream() == stream && descriptor(row, substream, leaf),
             Scope::Descriptors { stream } => kind == Kind::Cd && row.stream() == stream,
-            Scope::Stage1 { vmid } => kind == Kind::Stage1 && row.vmid() == vmid,
-            Scope::Space { vmid, asid } => {
-                kind == Kind::Stage1 && row.vmid() == vmid && row.asid() == asid && !row.global()
-            }
-            Scope::Stage1Page(page, asid) => {
-                kind == Kind::Stage1
-                    && page.takes(row)
-                    && asid.map_or(true, |asid| row.asid() == asid || row.global())
-            }
-            Scope::BothStages { vmid } => stage(kind) && row.vmid() == vmid,
+            Scope::BothStages { vmid } => stage(row) && row.vmid() == vmid,
             Scope::Stage2Page(page) => kind == Kind::Stage2 && page.takes(row),
-            Scope::Everything => stage(kind),
+            Scope::Everything => stage(row),
+            _ => kind == Kind::Stage1 && self.takes_stage1(row, row.regime()),
         }
     }
+
+    /// The commands for stage 1 alone: each is about the rows of one regime, but for
+    /// code 20, which is about both of the hypervisor's.
+    fn takes_stage1(&self, row: &Row, regime: Option<Regime>) -> bool {
+        let guest = regime == Some(Regime::Guest);
+        let el2 = regime == Some(Regime::El2);
+        let el2_e2h = regime == Some(Regime::El2E2h);
+        match *self {
+            Scope::Stage1 { vmid } => guest && row.vmid() == vmid,
+            Scope::Space { vmid, asid } => guest && row.vmid() == vmid && own(row, asid),
+            Scope::Stage1Page(page, asid) => guest && page.takes(row) && met(row, asid),
+            Scope::Hypervisor => el2 || el2_e2h,
+            Scope::HypervisorSpace { asid } => el2_e2h && own(row, asid),
+            Scope::El2Page(page) => el2 && page.takes(row),
+            Scope::El2E2hPage(page, asid) => el2_e2h && page.takes(row) && met(row, asid),
+            _ => false,
+        }
+    }
+}
+
+/// Whether a row is of the ASID and not global.
+fn own(row: &Row, asid: u64) -> bool {
+    row.asid() == asid && !row.global()
+}
+
+/// Whether a row is of the ASID or global, if one is asked for.
+fn met(row: &Row, asid: Option<u64>) -> bool {
+    asid.map_or(true, |asid| row.asid() == asid || row.global())
 }
 
 impl Page {
@@ -81,8 +110,9 @@ impl Page {
     }
 }
 
-fn stage(kind: Kind) -> bool {
-    matches!(kind, Kind::Stage1 | Kind::Stage2)
+/// A row of either stage, but not one of the hypervisor's own.
+fn stage(row: &Row) -> bool {
+    matches!(row.kind(), Kind::Stage1 | Kind::Stage2) && !row.marked()
 }
 
 /// Leaf keeps STE rows above the last level, but never a CD row.

@@ -1,4 +1,5 @@
-//! One transaction through STE, CD and both stages (document 01, A transaction).
+//! One transaction through STE, CD and both stages (document 01, A transaction;
+//! document 02, T-05).
 
 use super::attributes::{cacheable, Attributes, HALVES};
 use super::image;
@@ -36,9 +37,11 @@ pub enum Outcome {
     MissStage2,
 }
 
-/// The row that answers: the lowest one of the kind that is last-level and fits.
+/// The row that answers: the lowest one of the kind that is last-level, has no mark
+/// and fits.
 fn lookup(kept: &[u64], kind: Kind, fits: impl Fn(&Row) -> bool) -> Option<Row> {
-    image::rows(kept).find(|row| row.used() && row.kind() == kind && row.last_level() && fits(row))
+    let answers = |row: &Row| row.used() && row.last_level() && !row.marked();
+    image::rows(kept).find(|row| row.kind() == kind && answers(row) && fits(row))
 }
 
 /// The STE row that decides for a stream.

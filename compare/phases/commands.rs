@@ -3,7 +3,7 @@
 use super::{bytes, waiting};
 use crate::call::{Asked, Call};
 use crate::checker::Checker;
-use crate::generate::commands::{of_code, CODES};
+use crate::generate::commands::{combinations, hyp, of_code, CODES};
 use crate::generate::images::{table, with_rows};
 use crate::generate::random::Random;
 use crate::generate::rows::{
@@ -38,7 +38,7 @@ fn codes(checker: &mut Checker) {
     for code in 0..256 {
         let world = World::new(&mut random);
         let rows = table(&mut random, &world, 12);
-        for features in 0..16 {
+        for features in combinations() {
             one(checker, &rows, (code, 0), features);
         }
     }
@@ -62,8 +62,9 @@ fn bits(checker: &mut Checker) {
             } else {
                 (low, high ^ 1 << (bit - 64))
             };
+            let setting = hyp(&mut random);
             for features in 0..16 {
-                one(checker, &rows, command, features);
+                one(checker, &rows, command, features | setting);
             }
         }
     }

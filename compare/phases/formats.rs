@@ -5,7 +5,8 @@ use crate::call::Call;
 use crate::checker::Checker;
 use crate::generate::images::{self, control, with_rows};
 use crate::generate::random::Random;
-use crate::generate::rows::{self, cd, cd_table, ste, ste_block, Reach, Words, STAGE1, STAGE2};
+use crate::generate::rows::{self, cd, cd_table, marked, ste, ste_block, Reach, Words};
+use crate::generate::rows::{EL2, EL2_E2H, STAGE1, STAGE2};
 use crate::generate::world::World;
 use crate::limits::{words, ADDRESS, BLOCKS, ROWS};
 use crate::phases::single::any_call;
@@ -17,11 +18,12 @@ pub fn sweeps(checker: &mut Checker) {
     lengths(checker);
 }
 
-/// A well-formed row of each kind and level.
-fn samples(random: &mut Random, world: &World) -> [Words; 8] {
+/// A well-formed row of each kind and level, and of each mark.
+fn samples(random: &mut Random, world: &World) -> [Words; 12] {
     let stream = world.stream(random);
     let first = rows::reach(random, world, STAGE1);
     let second = rows::reach(random, world, STAGE2);
+    let page = first.page(world.page(random), rows::stage_payload(random, STAGE1));
     [
         ste(
             stream,
@@ -32,8 +34,12 @@ fn samples(random: &mut Random, world: &World) -> [Words; 8] {
         ste_block(stream, random.pick(&BLOCKS)),
         cd(stream, world.substream(random), world.asid(random)),
         cd_table(stream),
-        first.page(world.page(random), rows::stage_payload(random, STAGE1)),
+        page,
         first.table(),
+        marked(page, EL2),
+        marked(first.table(), EL2),
+        marked(page, EL2_E2H),
+        marked(first.table(), EL2_E2H),
         second.page(world.page(random), rows::stage_payload(random, STAGE2)),
         second.table(),
     ]

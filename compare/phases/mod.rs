@@ -8,6 +8,7 @@ pub mod cuts;
 pub mod doubles;
 pub mod events;
 pub mod formats;
+pub mod hyp;
 pub mod limits;
 pub mod pending;
 pub mod reasons;

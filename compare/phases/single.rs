@@ -7,7 +7,7 @@ use crate::generate::damage::{damage, elsewhere, misfit};
 use crate::generate::doubles::{fresh, near};
 use crate::generate::images::{image, leftover, queue_for};
 use crate::generate::random::Random;
-use crate::generate::rows::any_row;
+use crate::generate::rows::{any_row, EL2, EL2_E2H};
 use crate::generate::transactions::aimed;
 use crate::generate::world::World;
 use crate::limits::ROWS;
@@ -102,6 +102,7 @@ pub fn any_fill(random: &mut Random, world: &World, kept: &[u64]) -> Call<'stati
         0 => words = leftover(random, world),
         1 => words[place] ^= 1 << random.below(64),
         2 if place >= 2 => words[place] = elsewhere(random, words[place]),
+        3 => words[0] ^= random.pick(&[EL2, EL2_E2H, EL2 | EL2_E2H, 0]),
         _ => (),
     }
     let large = random.next() << 32 | random.below(4);

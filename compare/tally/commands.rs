@@ -86,7 +86,7 @@ impl Commands {
                 "other".into()
             };
             let removes = known && !matches!(code, 0x01 | 0x02 | 0x46);
-            let widths = matches!(code, 0x10..=0x13 | 0x28 | 0x2A);
+            let widths = matches!(code, 0x10..=0x13 | 0x21 | 0x22 | 0x28 | 0x2A);
             print!("  {name:<14}{}", table.cell(self.consumed[place], known));
             print!("{}", table.cell(self.removing[place], removes));
             print!("{}", table.cell(self.too_wide[place], widths));
@@ -117,7 +117,9 @@ fn possible(code: u64, reason: Reason) -> bool {
     let known = CODES.contains(&code);
     match reason {
         Reason::UnknownCode => !known,
-        Reason::FeatureAbsent => matches!(code, 0x05 | 0x06 | 0x10..=0x13 | 0x28 | 0x2A),
+        Reason::FeatureAbsent => {
+            matches!(code, 0x05 | 0x06 | 0x10..=0x13 | 0x20..=0x23 | 0x28 | 0x2A)
+        }
         Reason::ReservedBit => known,
         Reason::BadParameter => code == 0x46,
     }

@@ -1,11 +1,11 @@
 //! Wrong units that have another idea of the upper half (document 02, T-04).
 
-use crate::call::{Call, CUT, FIRST_EVENT, NAMES};
-use crate::generate::random::Random;
+use super::forms;
+use super::seen::{one_by_one, seen};
+use crate::call::{Call, FIRST_EVENT, NAMES};
 use crate::lent::Lent;
 use crate::limits::{ADDRESS, UPPER};
-use crate::model::control::Control;
-use crate::model::image::{place, rows};
+use crate::model::image::place;
 use crate::model::row::{Kind, Row};
 use crate::model::transaction::stream_row;
 use crate::unit;
@@ -16,14 +16,8 @@ type Changed = fn(u64) -> u64;
 
 #[derive(Clone, Copy)]
 pub enum Fault {
-    /// The call refuses a memory with such a row.
-    Refuses(usize, fn(&Row) -> bool),
-    /// A fill refuses such words.
-    Unfit(fn(&Row) -> bool),
-    /// The call takes rows for well formed by seeing them so.
-    Takes(usize, fn(Row) -> Row),
-    /// A fill takes words for well formed.
-    Fits(fn(Row) -> Row),
+    /// Other rows are well formed.
+    Form(forms::Fault),
     /// A fill loses the upper bits of word 2.
     Narrow,
     /// A transaction by way of one of the Configs sees rows and its address so.
@@ -38,31 +32,17 @@ pub enum Fault {
 pub fn all() -> Vec<(String, Fault)> {
     let mut all = Vec::new();
     for (call, name) in NAMES[..FIRST_EVENT].iter().enumerate() {
-        let fault = Fault::Refuses(call, upper);
+        let fault = Fault::Form(forms::Fault::Refuses(call, upper));
         all.push((format!("{name}: an upper row refused"), fault));
-        let fault = Fault::Takes(call, |row| lowered(row, 2, neither));
+        let fault = Fault::Form(forms::Fault::Takes(call, |row| lowered(row, 2, neither)));
         all.push((format!("{name}: a row of neither half accepted"), fault));
     }
-    for (name, test) in REFUSED {
-        all.push((
-            format!("state: {name} refused"),
-            Fault::Refuses(STATE, test),
-        ));
-        all.push((format!("fill: words of {name} refused"), Fault::Unfit(test)));
-    }
-    for (name, made) in ACCEPTED {
-        all.push((format!("state: {name} accepted"), Fault::Takes(STATE, made)));
-        all.push((
-            format!("fill: words with {name} accepted"),
-            Fault::Fits(made),
-        ));
-    }
+    let forms = forms::all(&REFUSED, &ACCEPTED);
+    all.extend(forms.map(|(name, fault)| (name, Fault::Form(fault))));
     let others = LOOKS.into_iter().chain(SCANS);
     all.extend(others.map(|(name, fault)| (name.into(), fault)));
     all
 }
-
-const STATE: usize = 6;
 
 const REFUSED: [(&str, fn(&Row) -> bool); 5] = [
     ("an upper page", |row| upper(row) && row.last_level()),
@@ -284,7 +264,7 @@ impl Fault {
     /// Makes the call as `unit::perform` does, with the fault.
     pub fn perform(self, call: Call, memory: &mut Lent, answer: &mut Lent) -> u64 {
         match (self, call) {
-            (Fault::Takes(of, made), _) if of == call.index() => seen(call, memory, answer, made),
+            (Fault::Form(form), _) => form.perform(call, memory, answer),
             (Fault::Looks(configs, row, address), Call::Translate(mut asked)) => {
                 let ste = stream_row(memory.inner(), asked.stream.into());
                 if ste.is_some_and(|ste| configs.contains(&ste.config())) {
@@ -296,141 +276,35 @@ impl Fault {
                 unit::perform(call, memory, answer)
             }
             (Fault::Scans(codes, row, address), Call::Run { .. }) => {
-                one_by_one(call, memory, answer, (codes, row, address))
+                let scan = (codes, row, address);
+                one_by_one(call, memory, answer, |call, slot, memory, answer| {
+                    command(call, slot, memory, answer, scan)
+                })
             }
             _ => {
-                let before = memory.inner().to_vec();
                 let number = unit::perform(call, memory, answer);
-                self.spoil(call, (&before, number), memory, answer.inner_mut())
+                self.spoil(call, number, memory, answer.inner_mut());
+                number
             }
         }
     }
 
     /// What comes back, once the unit was called.
-    fn spoil(
-        self,
-        call: Call,
-        (before, number): (&[u64], u64),
-        memory: &mut Lent,
-        answer: &mut [u64],
-    ) -> u64 {
+    fn spoil(self, call: Call, number: u64, memory: &mut Lent, answer: &mut [u64]) {
         match (self, call, number) {
-            (Fault::Refuses(of, test), _, 0 | 3..) if of == call.index() => {
-                let bad = |row: Row| row.used() && test(&row);
-                let lowest = rows(before).position(bad).map(|row| row as u64);
-                let Some(lowest) = lowest.filter(|&row| number != 3 || row < answer[0]) else {
-                    return number;
-                };
-                memory.inner_mut().copy_from_slice(before);
-                answer.fill(0);
-                answer[0] = lowest;
-                3
-            }
-            (Fault::Unfit(test), Call::Fill { words, .. }, 0) if test(&Row(words)) => {
-                memory.inner_mut().copy_from_slice(before);
-                answer.fill(0);
-                9
-            }
-            (Fault::Fits(made), Call::Fill { row, words, .. }, 9) if words[0] != 0 => {
-                let Row(seen) = made(Row(words));
-                fill(call, (row, words, seen), memory, answer)
-            }
             (Fault::Narrow, Call::Fill { row, .. }, 0) if answer[1] >= 2 => {
                 memory.inner_mut()[place(row as usize) + 2] %= ADDRESS;
-                0
             }
             (Fault::Keeps, Call::Translate(asked), 0) if answer[0] == 0 => {
                 answer[1] |= asked.address & UPPER;
-                0
             }
-            _ => number,
+            _ => (),
         }
     }
-}
-
-/// The call on rows that are seen otherwise; what is stored is stored in those that
-/// are there.
-fn seen(call: Call, memory: &mut Lent, answer: &mut Lent, see: impl Fn(Row) -> Row) -> u64 {
-    let mut before = memory.inner().to_vec();
-    for (number, row) in rows(memory.inner()).enumerate() {
-        if row.used() {
-            before[place(number)..][..4].copy_from_slice(&see(row).0);
-        }
-    }
-    let mut copy = Lent::new(&before, &mut Random::new(0));
-    let number = unit::perform(call, &mut copy, answer);
-    let stored = copy.inner().iter().zip(&before);
-    for (word, (new, old)) in memory.inner_mut().iter_mut().zip(stored) {
-        if new != old {
-            *word = *new;
-        }
-    }
-    number
-}
-
-/// A fill that goes by other words than those that it stores.
-fn fill(
-    call: Call,
-    (row, words, seen): (u64, [u64; 4], [u64; 4]),
-    memory: &mut Lent,
-    answer: &mut [u64],
-) -> u64 {
-    let mut numbers = call.numbers();
-    numbers[1..5].copy_from_slice(&seen);
-    let mut told = Lent::new(answer, &mut Random::new(0));
-    let number = unit::perform(call.passing(&numbers), memory, &mut told);
-    answer.copy_from_slice(told.inner());
-    if number == 0 {
-        for word in [1, 2, 3, 0].into_iter().take(answer[1] as usize) {
-            memory.inner_mut()[place(row as usize) + word] = words[word];
-        }
-    }
-    number
 }
 
 /// Codes, and how commands of theirs see rows and their address.
 type Scan = (&'static [u8], Seen, Changed);
-
-const EMPTY: u64 = 2;
-
-/// A run of one command after the other.
-fn one_by_one(call: Call, memory: &mut Lent, answer: &mut Lent, scan: Scan) -> u64 {
-    let mut sums = [0; 4];
-    loop {
-        let (number, over) = step(with_left(call, sums[1]), memory, answer, scan);
-        (0..4).for_each(|count| sums[count] += answer.inner()[1 + count]);
-        if over && number == 0 {
-            answer.inner_mut()[1..5].copy_from_slice(&sums);
-        }
-        if over {
-            return number;
-        }
-    }
-}
-
-/// The run with so many stores made.
-fn with_left(call: Call, made: u64) -> Call {
-    let mut numbers = call.numbers();
-    numbers[1] -= made;
-    call.passing(&numbers)
-}
-
-/// One command, or where none is due the end of the run; whether it was the end.
-fn step(call: Call, memory: &mut Lent, answer: &mut Lent, scan: Scan) -> (u64, bool) {
-    let mut copy = Lent::new(memory.inner(), &mut Random::new(0));
-    let none = call.passing(&[call.numbers()[0], 0]);
-    if unit::perform(none, &mut copy, answer) != 0 || answer.inner()[0] != CUT {
-        return (unit::perform(call, memory, answer), true);
-    }
-    let control = Control::fields(memory.inner()[0]);
-    let (wr, slot) = ((control.rd + 1) % control.ring(), control.slot());
-    memory.inner_mut()[0] = Control { wr, ..control }.pack();
-    let number = command(call, slot, memory, answer, scan);
-    let wr = control.wr;
-    let control = Control::fields(memory.inner()[0]);
-    memory.inner_mut()[0] = Control { wr, ..control }.pack();
-    (number, answer.inner()[0] != EMPTY)
-}
 
 /// The run over the only command that waits, by its own way of seeing.
 fn command(

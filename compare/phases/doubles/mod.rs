@@ -44,7 +44,8 @@ fn second(span: u64, page: u64) -> Reach {
     }
 }
 
-/// T-02 once more, over ranges of addresses with ends that may be 2^64.
+/// T-02 once more, over ranges of addresses with ends that may be 2^64; and T-05's
+/// marks, which keep a row out of it.
 fn one_lookup(old: Words, new: Words) -> bool {
     let equal = |bits: u64| (old[0] ^ new[0]) & bits == 0;
     let (kind, last, global) = (0b110, 1 << 3, 1 << 4);
@@ -57,14 +58,15 @@ fn one_lookup(old: Words, new: Words) -> bool {
         0b100 => meet && equal(vmid) && (equal(asid) || (old[0] | new[0]) & global != 0),
         _ => meet && equal(vmid),
     };
-    found && equal(kind) && old[0] & new[0] & last != 0
+    let unmarked = (old[0] | new[0]) & 0b11 << 11 == 0;
+    found && unmarked && equal(kind) && old[0] & new[0] & last != 0
 }
 
-const LAW: &str = "11 is given other than T-02 has it";
+const LAW: &str = "11 is given other than T-02 and T-05 have it";
 
 /// A fill into an empty row: refused with 11 exactly if one of the rows in use
 /// could answer for the new one.
-fn fill(checker: &mut Checker, rows: &[Words], row: usize, words: Words) {
+pub fn fill(checker: &mut Checker, rows: &[Words], row: usize, words: Words) {
     let before = with_rows(waiting(0, 0), rows);
     let call = Call::Fill {
         row: row as u64,

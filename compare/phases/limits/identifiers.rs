@@ -18,7 +18,7 @@ pub fn sweeps(checker: &mut Checker) {
 }
 
 /// The number, and those that differ from it in one of the bits.
-fn family(number: u64, bits: std::ops::Range<u32>) -> Vec<u64> {
+pub fn family(number: u64, bits: std::ops::Range<u32>) -> Vec<u64> {
     let others = bits.map(|bit| number ^ 1 << bit);
     std::iter::once(number).chain(others).collect()
 }

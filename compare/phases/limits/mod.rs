@@ -1,6 +1,6 @@
 //! Both sides of every limit (compare/limits.rs), leaving nothing to chance.
 
-mod identifiers;
+pub mod identifiers;
 mod lengths;
 mod lookups;
 mod numbers;

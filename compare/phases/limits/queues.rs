@@ -1,11 +1,12 @@
 //! Full queues of one kind of command, and every slot of the largest queue.
 
-use super::{bytes, first, second, waiting, ALL};
+use super::{bytes, first, second, waiting};
 use super::{ASID, OUTPUT, PAGE, STAGE1_PAYLOAD, STREAM, SUBSTREAM, VMID, WRITE_BACK};
 use crate::call::Call;
 use crate::checker::Checker;
+use crate::generate::commands::KNOWN;
 use crate::generate::images::with_rows;
-use crate::generate::rows::{cd, cd_table, ste, Reach, Words};
+use crate::generate::rows::{cd, cd_table, marked, ste, Reach, Words, EL2_E2H};
 use crate::limits::{LOG2SIZE, ROWS, SLOTS};
 use crate::model::control::Control;
 
@@ -32,14 +33,14 @@ fn full(log2size: u64, rd: u64) -> Control {
 fn run(checker: &mut Checker, kept: &mut [u64], queue: &[u8], allowance: u64) {
     let call = Call::Run {
         queue,
-        features: ALL,
+        features: KNOWN,
         allowance,
     };
     checker.call(kept, call);
 }
 
 /// A command of each code, CMD_SYNC with each CS, and one that is illegal.
-fn kinds() -> [(u64, u64); 17] {
+fn kinds() -> [(u64, u64); 21] {
     let (stream, vmid, asid) = (STREAM << 32, VMID << 32, ASID << 48);
     [
         (0x1046, 0),
@@ -55,6 +56,10 @@ fn kinds() -> [(u64, u64); 17] {
         (0x11 | vmid | asid, 0),
         (0x12 | vmid | asid, PAGE),
         (0x13 | vmid, PAGE),
+        (0x20, 0),
+        (0x21 | asid, 0),
+        (0x22 | asid, PAGE),
+        (0x23, PAGE),
         (0x28 | vmid, 0),
         (0x2A | vmid, PAGE),
         (0x30, 0),
@@ -70,6 +75,7 @@ fn one_kind(checker: &mut Checker, log2size: u64) {
         cd(STREAM, SUBSTREAM, ASID),
         cd_table(STREAM),
         first().page(OUTPUT, STAGE1_PAYLOAD),
+        marked(first().table(), EL2_E2H),
         second(PAGE).page(OUTPUT, WRITE_BACK),
     ];
     let slots = 1u64 << log2size;

@@ -1,11 +1,12 @@
 //! Rows that a run removes, at the last place and elsewhere, one or all.
 
-use super::{bytes, first, places, second, sizes, table, waiting, ALL, AS_IT_COMES};
+use super::{bytes, first, places, second, sizes, table, waiting, AS_IT_COMES};
 use super::{ASID, MIDDLE, OUTPUT, PAGE, STAGE1_PAYLOAD, STREAM, SUBSTREAM, VMID, WRITE_BACK};
 use crate::call::Call;
 use crate::checker::Checker;
+use crate::generate::commands::KNOWN;
 use crate::generate::images::with_rows;
-use crate::generate::rows::{cd, cd_table, ste, ste_block, Words};
+use crate::generate::rows::{cd, cd_table, marked, ste, ste_block, Words, EL2, EL2_E2H};
 use crate::limits::ROWS;
 
 pub fn sweeps(checker: &mut Checker) {
@@ -39,6 +40,10 @@ fn scopes() -> Vec<((u64, u64), Words)> {
         ((0x11 | vmid | asid, 0), page1),
         ((0x12 | vmid | asid, PAGE | 1), page1),
         ((0x13 | vmid, PAGE), first().table()),
+        ((0x20, 0), marked(page1, EL2)),
+        ((0x21 | asid, 0), marked(page1, EL2_E2H)),
+        ((0x22 | asid, PAGE | 1), marked(page1, EL2_E2H)),
+        ((0x23, PAGE), marked(first().table(), EL2_E2H)),
         ((0x28 | vmid, 0), page1),
         ((0x28 | vmid, 0), second(PAGE).table()),
         ((0x2A | vmid, PAGE | 1), page2),
@@ -51,7 +56,7 @@ fn run(checker: &mut Checker, kept: &mut [u64], command: (u64, u64), allowance: 
     let queue = bytes(&[command]);
     let call = Call::Run {
         queue: &queue,
-        features: ALL,
+        features: KNOWN,
         allowance,
     };
     checker.call(kept, call);

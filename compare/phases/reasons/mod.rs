@@ -1,6 +1,6 @@
 //! Why a command is illegal, and where it stands (document 02, T-09).
 
-mod bits;
+pub mod bits;
 pub mod cases;
 mod cuts;
 mod queues;

@@ -43,7 +43,7 @@ pub fn cases(checker: &mut Checker) {
 
 /// Filled in, then as a row of a memory: carried out, or refused with 9 and 3. The
 /// other calls see the row too, where each of them has something to do.
-fn either(checker: &mut Checker, words: Words, accepted: bool) {
+pub fn either(checker: &mut Checker, words: Words, accepted: bool) {
     let fill = Call::Fill {
         row: 0,
         words,

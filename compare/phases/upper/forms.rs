@@ -49,7 +49,7 @@ pub fn sweeps(checker: &mut Checker) {
 
 /// Addresses next to a half, between the halves, and those of both that are no
 /// multiples of the size.
-fn outside(span: u64) -> [u64; 14] {
+pub fn outside(span: u64) -> [u64; 14] {
     let size = 1u64 << span;
     let top = size.wrapping_neg();
     [
@@ -71,7 +71,7 @@ fn outside(span: u64) -> [u64; 14] {
 }
 
 /// The words, and whether the address may be in the upper half.
-type Form = (Words, bool);
+pub type Form = (Words, bool);
 
 /// The address as the input of each stage, last-level or not, and as the output.
 fn forms(span: u64, address: u64) -> [Form; 6] {
@@ -100,7 +100,7 @@ fn allowed(span: u64, address: u64, upper: bool) -> bool {
 const LAW: &str = "a row isn't accepted as T-04 has it";
 
 /// Filled in and as a row; refused with 9 and with 3, or not.
-fn formed(checker: &mut Checker, (words, upper): Form, span: u64, address: u64) {
+pub fn formed(checker: &mut Checker, (words, upper): Form, span: u64, address: u64) {
     let fill = Call::Fill {
         row: 1,
         words,
@@ -119,7 +119,7 @@ fn formed(checker: &mut Checker, (words, upper): Form, span: u64, address: u64) 
 
 /// The row behind an empty one that is there to be filled. An error is active and
 /// an interrupt pending, so that no call has another reason to refuse.
-fn called(checker: &mut Checker, words: Words) {
+pub fn called(checker: &mut Checker, words: Words) {
     let mut control = waiting(0, 1);
     control.err = 1;
     control.gerror = true;

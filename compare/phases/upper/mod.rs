@@ -2,7 +2,7 @@
 
 pub mod cases;
 mod commands;
-mod forms;
+pub mod forms;
 mod transactions;
 
 use super::{bytes, run, waiting};
@@ -45,7 +45,7 @@ fn second(span: u64, page: u64) -> Reach {
 
 /// Inputs that a stage 1 row of the span may have: at the ends of each half, one
 /// further in, and in the middle of the upper half.
-fn inside(span: u64) -> [u64; 9] {
+pub fn inside(span: u64) -> [u64; 9] {
     let size = 1u64 << span;
     [
         0,

@@ -7,7 +7,7 @@ use Prim.Native.Nat.{ℕ}
 use Rattle.words.specs.Ranges.{get}
 use Rattle.commands.specs.declared.Target.{Target}
 use Rattle.commands.specs.declared.Command.{Command}
-use Rattle.commands.specs.declared.Command.the-variants.{PrefetchConfig, PrefetchAddr, CfgiSte, CfgiSteRange, CfgiCd, CfgiCdAll, TlbiNhAll, TlbiNhAsid, TlbiNhVa, TlbiNhVaa, TlbiS12Vmall, TlbiS2Ipa, TlbiNsnhAll, Sync}
+use Rattle.commands.specs.declared.Command.the-variants.{PrefetchConfig, PrefetchAddr, CfgiSte, CfgiSteRange, CfgiCd, CfgiCdAll, TlbiNhAll, TlbiNhAsid, TlbiNhVa, TlbiNhVaa, TlbiEl2All, TlbiEl2Asid, TlbiEl2Va, TlbiEl2Vaa, TlbiS12Vmall, TlbiS2Ipa, TlbiNsnhAll, Sync}
 use Rattle.commands.specs.Formats.{streamBits, substreamBits, vmidBits, asidBits, csBits, leafBits, rangeBits, pageBits, ipaPageBits, isSetIn, targetOf, codeIn}
 use Rattle.commands.specs.Decoding.{commandOf}
 use Rattle.commands.proofs.Codes.{NoneOf, others, last-command}
@@ -54,6 +54,22 @@ module _ (code c : ℕ) where
   pub is-13 : (v p : ℕ) (t : Target) → code ≡ 0x13 → v ≡ get vmidBits c → p ≡ get pageBits c → t ≡ targetOf p c → TlbiNhVaa v t ≡ commandOf code c
   unfolding commandOf
   is-13 v p t e x z w = rw (e, x, w, z)
+
+  pub is-20 : code ≡ 0x20 → TlbiEl2All ≡ commandOf code c
+  unfolding commandOf
+  is-20 e = rw e
+
+  pub is-21 : (a : ℕ) → code ≡ 0x21 → a ≡ get asidBits c → TlbiEl2Asid a ≡ commandOf code c
+  unfolding commandOf
+  is-21 a e p = rw (e, p)
+
+  pub is-22 : (a p : ℕ) (t : Target) → code ≡ 0x22 → a ≡ get asidBits c → p ≡ get pageBits c → t ≡ targetOf p c → TlbiEl2Va a t ≡ commandOf code c
+  unfolding commandOf
+  is-22 a p t e y z w = rw (e, y, w, z)
+
+  pub is-23 : (p : ℕ) (t : Target) → code ≡ 0x23 → p ≡ get pageBits c → t ≡ targetOf p c → TlbiEl2Vaa t ≡ commandOf code c
+  unfolding commandOf
+  is-23 p t e z w = rw (e, w, z)
 
   pub is-28 : (v : ℕ) → code ≡ 0x28 → v ≡ get vmidBits c → TlbiS12Vmall v ≡ commandOf code c
   unfolding commandOf

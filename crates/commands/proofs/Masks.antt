@@ -30,6 +30,10 @@ masks =
     ∷ (0xffffffff000000ff ∷ 0x0 ∷ [])
     ∷ (0xffffffff000000ff ∷ 0xfffffffffffff001 ∷ [])
     ∷ (0xffff000000ff ∷ 0xfffffffffffff001 ∷ [])
+    ∷ (0xff ∷ 0x0 ∷ [])
+    ∷ (0xffff0000000000ff ∷ 0x0 ∷ [])
+    ∷ (0xffff0000000000ff ∷ 0xfffffffffffff001 ∷ [])
+    ∷ (0xff ∷ 0xfffffffffffff001 ∷ [])
     ∷ (0xffff000000ff ∷ 0x0 ∷ [])
     ∷ (0xffff000000ff ∷ 0xffffffffff001 ∷ [])
     ∷ (0xff ∷ 0x0 ∷ [])
@@ -48,11 +52,12 @@ fits f k = exactly (named (namedAt f k)) (getD (maskAt f k) 0 0) && exactly (λ 
 
 tested : (f : Features) → all howMany (fits f) ≡ true
 unfolding fits isSet
-tested f = by-s2p (f .s1p) (f .s2p) (f .asid16) (f .vmid16)
+tested f = by-s2p (f .s1p) (f .s2p) (f .asid16) (f .vmid16) (f .hyp) (f .e2h)
   where
-    by-s2p : (s1p s2p asid16 vmid16 : Bool) → all howMany (fits record { s1p = s1p; s2p = s2p; asid16 = asid16; vmid16 = vmid16 }) ≡ true
-    by-s2p s1p true asid16 vmid16 = passed tt
-    by-s2p s1p false asid16 vmid16 = passed tt
+    by-s2p : (s1p s2p asid16 vmid16 hyp e2h : Bool)
+        → all howMany (fits record { s1p = s1p; s2p = s2p; asid16 = asid16; vmid16 = vmid16; hyp = hyp; e2h = e2h }) ≡ true
+    by-s2p s1p true asid16 vmid16 hyp e2h = passed tt
+    by-s2p s1p false asid16 vmid16 hyp e2h = passed tt
 
 pub right-masks : (f : Features) (k : ℕ) → k < howMany → MasksOf (namedAt f k) (maskAt f k)
 unfolding fits

@@ -8,7 +8,7 @@ use lib.Dec.{eqb}
 use types.Run.{OneOf, miss}
 use denote.Enum.Declared.{tagOf}
 use Rattle.commands.specs.declared.Command.{Command}
-use Rattle.commands.specs.declared.Command.the-variants.{PrefetchConfig, PrefetchAddr, CfgiSte, CfgiSteRange, CfgiCd, CfgiCdAll, TlbiNhAll, TlbiNhAsid, TlbiNhVa, TlbiNhVaa, TlbiS12Vmall, TlbiS2Ipa, TlbiNsnhAll, Sync}
+use Rattle.commands.specs.declared.Command.the-variants.{PrefetchConfig, PrefetchAddr, CfgiSte, CfgiSteRange, CfgiCd, CfgiCdAll, TlbiNhAll, TlbiNhAsid, TlbiNhVa, TlbiNhVaa, TlbiEl2All, TlbiEl2Asid, TlbiEl2Va, TlbiEl2Vaa, TlbiS12Vmall, TlbiS2Ipa, TlbiNsnhAll, Sync}
 use Rattle.commands.proofs.Command.{the-type}
 use Rattle.words.specs.Choice.{pick}
 use Rattle.commands.specs.Formats.{howMany}
@@ -34,6 +34,10 @@ not-counted (TlbiNhAll v) m = refl
 not-counted (TlbiNhAsid v a) m = refl
 not-counted (TlbiNhVa v a t) m = refl
 not-counted (TlbiNhVaa v t) m = refl
+not-counted TlbiEl2All m = refl
+not-counted (TlbiEl2Asid a) m = refl
+not-counted (TlbiEl2Va a t) m = refl
+not-counted (TlbiEl2Vaa t) m = refl
 not-counted (TlbiS12Vmall v) m = refl
 not-counted (TlbiS2Ipa v t) m = refl
 not-counted TlbiNsnhAll m = refl

@@ -1,4 +1,4 @@
--- Document 01, Commands and their scopes: which commands are legal, and what they are.
+-- Document 01, Commands and their scopes, with document 02, T-05 and T-09: which commands are legal, and what they are.
 -- Assumes nothing.
 use Prim.Native.Nat.{ℕ, _+_, _*_}
 use mathlib.Core.Bool.{Bool, true, false, not, _&&_}
@@ -11,7 +11,7 @@ use Rattle.words.specs.Search.{placeOf}
 use Rattle.words.specs.Bytes.{wordAt}
 use Rattle.commands.specs.declared.Features.{Features}
 use Rattle.commands.specs.declared.Command.{Command}
-use Rattle.commands.specs.declared.Command.the-variants.{PrefetchConfig, PrefetchAddr, CfgiSte, CfgiSteRange, CfgiCd, CfgiCdAll, TlbiNhAll, TlbiNhAsid, TlbiNhVa, TlbiNhVaa, TlbiS12Vmall, TlbiS2Ipa, TlbiNsnhAll, Sync}
+use Rattle.commands.specs.declared.Command.the-variants.{PrefetchConfig, PrefetchAddr, CfgiSte, CfgiSteRange, CfgiCd, CfgiCdAll, TlbiNhAll, TlbiNhAsid, TlbiNhVa, TlbiNhVaa, TlbiEl2All, TlbiEl2Asid, TlbiEl2Va, TlbiEl2Vaa, TlbiS12Vmall, TlbiS2Ipa, TlbiNsnhAll, Sync}
 use Rattle.commands.specs.declared.Reason.{Reason}
 use Rattle.commands.specs.declared.Reason.the-variants.{UnknownCode, FeatureAbsent, ReservedBit, BadParameter}
 use Rattle.commands.specs.declared.Decoded.{Decoded}
@@ -102,6 +102,10 @@ isCounted (TlbiNhAll vmid) = false
 isCounted (TlbiNhAsid vmid asid) = false
 isCounted (TlbiNhVa vmid asid target) = false
 isCounted (TlbiNhVaa vmid target) = false
+isCounted TlbiEl2All = false
+isCounted (TlbiEl2Asid asid) = false
+isCounted (TlbiEl2Va asid target) = false
+isCounted (TlbiEl2Vaa target) = false
 isCounted (TlbiS12Vmall vmid) = false
 isCounted (TlbiS2Ipa vmid target) = false
 isCounted TlbiNsnhAll = false

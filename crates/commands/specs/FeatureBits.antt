@@ -11,4 +11,6 @@ featuresOf w =
       s2p = isSet 1 w;
       asid16 = isSet 2 w;
       vmid16 = isSet 3 w;
+      hyp = isSet 4 w;
+      e2h = isSet 7 w;
     }

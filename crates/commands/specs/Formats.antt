@@ -1,9 +1,9 @@
--- Document 01, Commands and their scopes: the codes, what each needs and names, and the command that it is. Bits are numbered
--- 127:0 over both words.
+-- Document 01, Commands and their scopes, with document 02, T-05: the codes, what each needs and names, and the command that it
+-- is. Bits are numbered 127:0 over both words.
 -- Assumes nothing.
 use Prim.Native.Nat.{ℕ, _+_}
 use mathlib.Core.Path.{_≡_}
-use mathlib.Core.Bool.{Bool, true, not}
+use mathlib.Core.Bool.{Bool, true, not, _&&_}
 use mathlib.Core.List.{List, [], _∷_, _++_, map}
 use lib.Dec.{eqb}
 use lib.ListN.{length, getD}
@@ -13,7 +13,7 @@ use Rattle.words.specs.Ranges.{Range, bits, get, named, all}
 use Rattle.commands.specs.declared.Features.{Features}
 use Rattle.commands.specs.declared.Target.{Target}
 use Rattle.commands.specs.declared.Command.{Command}
-use Rattle.commands.specs.declared.Command.the-variants.{PrefetchConfig, PrefetchAddr, CfgiSte, CfgiSteRange, CfgiCd, CfgiCdAll, TlbiNhAll, TlbiNhAsid, TlbiNhVa, TlbiNhVaa, TlbiS12Vmall, TlbiS2Ipa, TlbiNsnhAll, Sync}
+use Rattle.commands.specs.declared.Command.the-variants.{PrefetchConfig, PrefetchAddr, CfgiSte, CfgiSteRange, CfgiCd, CfgiCdAll, TlbiNhAll, TlbiNhAsid, TlbiNhVa, TlbiNhVaa, TlbiEl2All, TlbiEl2Asid, TlbiEl2Va, TlbiEl2Vaa, TlbiS12Vmall, TlbiS2Ipa, TlbiNsnhAll, Sync}
 
 abbrev pub codeBits : Range
 codeBits = bits 7 0
@@ -68,6 +68,10 @@ s1p f = f .s1p
 abbrev pub s2p : Features → Bool
 s2p f = f .s2p
 
+-- document 02, T-05
+abbrev pub hyp : Features → Bool
+hyp f = f .hyp && f .s1p
+
 -- A code; whether the features that it needs are there; the bits besides its own that it names under the features, those not
 -- looked at among them; and the command, with its fields as they stand.
 pub data Format : Type 0 where
@@ -87,6 +91,11 @@ formats =
     ∷ code 0x11 s1p (λ f. vmidWith f ++ asidBits ∷ []) (λ c. TlbiNhAsid (get vmidBits c) (get asidBits c))
     ∷ code 0x12 s1p (λ f. vmidWith f ++ asidBits ∷ leafBits ∷ pageBits ∷ []) (λ c. TlbiNhVa (get vmidBits c) (get asidBits c) (targetOf (get pageBits c) c))
     ∷ code 0x13 s1p (λ f. vmidWith f ++ leafBits ∷ pageBits ∷ []) (λ c. TlbiNhVaa (get vmidBits c) (targetOf (get pageBits c) c))
+    -- document 02, T-05: no VMID
+    ∷ code 0x20 hyp (λ f. []) (λ c. TlbiEl2All)
+    ∷ code 0x21 hyp (λ f. asidBits ∷ []) (λ c. TlbiEl2Asid (get asidBits c))
+    ∷ code 0x22 hyp (λ f. asidBits ∷ leafBits ∷ pageBits ∷ []) (λ c. TlbiEl2Va (get asidBits c) (targetOf (get pageBits c) c))
+    ∷ code 0x23 hyp (λ f. leafBits ∷ pageBits ∷ []) (λ c. TlbiEl2Vaa (targetOf (get pageBits c) c))
     ∷ code 0x28 s2p (λ f. vmidBits ∷ []) (λ c. TlbiS12Vmall (get vmidBits c))
     ∷ code 0x2A s2p (λ f. vmidBits ∷ leafBits ∷ ipaPageBits ∷ []) (λ c. TlbiS2Ipa (get vmidBits c) (targetOf (get ipaPageBits c) c))
     ∷ code 0x30 always (λ f. []) (λ c. TlbiNsnhAll)
@@ -109,7 +118,7 @@ namesIn (code n needs names is) f = names f
 abbrev pub commandIn : Format → ℕ → Command
 commandIn (code n needs names is) c = is c
 
--- the codes, in the paper's order
+-- the codes, in ascending order
 abbrev pub codes : List ℕ
 codes = map codeIn formats
 

@@ -1,4 +1,4 @@
-// Document 01, Commands and their scopes: which commands are legal, and what they are.
+// Document 01, Commands and their scopes, with document 02, T-05 and T-09: which commands are legal, and what they are.
 use crate::Command;
 use crate::Decoded;
 use crate::Features;
@@ -31,10 +31,14 @@ fn place(code: u64) -> usize
         0x11 => 7,
         0x12 => 8,
         0x13 => 9,
-        0x28 => 10,
-        0x2A => 11,
-        0x30 => 12,
-        0x46 => 13,
+        0x20 => 10,
+        0x21 => 11,
+        0x22 => 12,
+        0x23 => 13,
+        0x28 => 14,
+        0x2A => 15,
+        0x30 => 16,
+        0x46 => 17,
         _ => CODES,
     }
 }
@@ -53,6 +57,10 @@ fn feature_present(f: Features, code: u64) -> bool
         0x11 => f.s1p,
         0x12 => f.s1p,
         0x13 => f.s1p,
+        0x20 => f.hyp & f.s1p,
+        0x21 => f.hyp & f.s1p,
+        0x22 => f.hyp & f.s1p,
+        0x23 => f.hyp & f.s1p,
         0x28 => f.s2p,
         0x2A => f.s2p,
         0x30 => true,
@@ -119,6 +127,10 @@ fn command_of(code: u64, lo: u64, hi: u64) -> Command
         0x11 => Command::TlbiNhAsid(vmid(lo, hi), asid(lo, hi)),
         0x12 => Command::TlbiNhVa(vmid(lo, hi), asid(lo, hi), target_of(lo, hi, page(lo, hi))),
         0x13 => Command::TlbiNhVaa(vmid(lo, hi), target_of(lo, hi, page(lo, hi))),
+        0x20 => Command::TlbiEl2All,
+        0x21 => Command::TlbiEl2Asid(asid(lo, hi)),
+        0x22 => Command::TlbiEl2Va(asid(lo, hi), target_of(lo, hi, page(lo, hi))),
+        0x23 => Command::TlbiEl2Vaa(target_of(lo, hi, page(lo, hi))),
         0x28 => Command::TlbiS12Vmall(vmid(lo, hi)),
         0x2A => Command::TlbiS2Ipa(vmid(lo, hi), target_of(lo, hi, field(lo, hi, 115, 76))),
         0x30 => Command::TlbiNsnhAll,

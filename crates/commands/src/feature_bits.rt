@@ -11,5 +11,7 @@ pub fn features_of(bits: u64) -> Features
         s2p: words::part(bits, 1, 1) == 1,
         asid16: words::part(bits, 2, 2) == 1,
         vmid16: words::part(bits, 3, 3) == 1,
+        hyp: words::part(bits, 4, 4) == 1,
+        e2h: words::part(bits, 7, 7) == 1,
     }
 }

@@ -1,4 +1,4 @@
-// Document 01, Commands and their scopes: the bits that each code names.
+// Document 01, Commands and their scopes, with document 02, T-05: the bits that each code names.
 use crate::Features;
 ghost use mathlib.Core.Path.{_≡_};
 ghost use Prim.Native.Nat.{_+_, _/_, _≤_, _<_};
@@ -7,7 +7,7 @@ ghost use Rattle.commands.specs.Formats.{howMany, namedAt, MasksOf};
 ghost use Rattle.commands.specs.Decoding.{clean};
 
 // How many codes there are.
-pub const CODES: usize = 14;
+pub const CODES: usize = 18;
 
 // The bits that may be set in a command's low and high word, a pair for each code, with every feature.
 const NAMED: [[u64; 2]; CODES] = [
@@ -31,6 +31,14 @@ const NAMED: [[u64; 2]; CODES] = [
     [0xffff_ffff_0000_00ff, 0xffff_ffff_ffff_f001],
     // 13
     [0x0000_ffff_0000_00ff, 0xffff_ffff_ffff_f001],
+    // 20
+    [0x0000_0000_0000_00ff, 0x0000_0000_0000_0000],
+    // 21
+    [0xffff_0000_0000_00ff, 0x0000_0000_0000_0000],
+    // 22
+    [0xffff_0000_0000_00ff, 0xffff_ffff_ffff_f001],
+    // 23
+    [0x0000_0000_0000_00ff, 0xffff_ffff_ffff_f001],
     // 28
     [0x0000_ffff_0000_00ff, 0x0000_0000_0000_0000],
     // 2A

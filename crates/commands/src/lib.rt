@@ -14,6 +14,9 @@ pub struct Features {
     pub s2p: bool,
     pub asid16: bool,
     pub vmid16: bool,
+    // Document 02, T-05: a feature, and a setting.
+    pub hyp: bool,
+    pub e2h: bool,
 }
 
 // What a command by address aims at: Leaf, and the address without its low 12 bits.
@@ -42,6 +45,13 @@ pub enum Command {
     TlbiNhVa(u64, u64, Target),
     // VMID
     TlbiNhVaa(u64, Target),
+    // Document 02, T-05: the hypervisor's own.
+    TlbiEl2All,
+    // ASID
+    TlbiEl2Asid(u64),
+    // ASID
+    TlbiEl2Va(u64, Target),
+    TlbiEl2Vaa(Target),
     // VMID
     TlbiS12Vmall(u64),
     // VMID

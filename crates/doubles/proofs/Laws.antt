@@ -1,4 +1,4 @@
--- Which rows collide: last-level ones only, either way round; and what it says that none of the rows collides with given words.
+-- Which rows collide: last-level ones without a mark only, either way round; and what it says that none of the rows collides with given words.
 -- Assumes nothing.
 use mathlib.Core.Path.{_≡_, refl, sym, ap, _∙_}
 use mathlib.Core.Bool.{Bool, true, false, _&&_, _||_}
@@ -14,14 +14,15 @@ use Rattle.words.proofs.Truth.{left, right, and-true, same-test, never, clash}
 use Rattle.words.proofs.Spans.{either-first}
 use Rattle.words.proofs.Search.{from-zero, none, is-none}
 use Rattle.rows.specs.declared.Row.{Row}
-use Rattle.rows.specs.Rows.{kind, isLast, isGlobal, span, vmid, asid, stream, substream}
+use Rattle.rows.specs.Rows.{kind, isLast, isUnmarked, mayAnswer, isGlobal, span, vmid, asid, stream, substream}
+use Rattle.rows.proofs.LastLevel.{not-last-silent, marked-silent}
 use Rattle.image.specs.Image.{rowAt}
 use Rattle.doubles.specs.Doubles.{sharesAddress, sharesAsid, shares, collides, collidesAt, isFound, doubled}
 
 -- what both rows of a collision are
 pub record Both (a b : Row) : Type 0 where
-  pub first-last : isLast a ≡ true
-  pub second-last : isLast b ≡ true
+  pub first-answers : mayAnswer a ≡ true
+  pub second-answers : mayAnswer b ≡ true
   pub one-kind : kind a ≡ kind b
   pub share : shares a b ≡ true
 
@@ -29,29 +30,42 @@ module _ (a b : Row) where
   pub both : collides a b ≡ true → Both a b
   unfolding collides
   both e =
-      let l = isLast a in
-      let r = isLast b in
+      let l = mayAnswer a in
+      let r = mayAnswer b in
       let k = eqb (kind a) (kind b) in
       let three = left (l && r && k) (shares a b) e in
       let two = left (l && r) k three in
       record {
-        first-last = left l r two;
-        second-last = right l r two;
+        first-answers = left l r two;
+        second-answers = right l r two;
         one-kind = eqb-true (kind a) (kind b) (right (l && r) k three);
         share = right (l && r && k) (shares a b) e;
       }
 
   pub is-both : Both a b → collides a b ≡ true
   unfolding collides
-  is-both c = and-true (and-true (and-true (c .first-last) (c .second-last)) (eq-eqb (kind a) (kind b) (c .one-kind))) (c .share)
+  is-both c = and-true (and-true (and-true (c .first-answers) (c .second-answers)) (eq-eqb (kind a) (kind b) (c .one-kind))) (c .share)
 
-  -- a row that is not last-level collides with none
+  -- a row that may not answer collides with none
+  first-silent : mayAnswer a ≡ false → collides a b ≡ false
+  first-silent e = never (collides a b) (λ c. clash (both c .first-answers) e)
+
+  second-silent : mayAnswer b ≡ false → collides a b ≡ false
+  second-silent e = never (collides a b) (λ c. clash (both c .second-answers) e)
+
+  -- one that is not last-level
   pub first-not-last : isLast a ≡ false → collides a b ≡ false
-  unfolding collides
-  first-not-last e = rw e
+  first-not-last e = first-silent (not-last-silent a e)
 
   pub second-not-last : isLast b ≡ false → collides a b ≡ false
-  second-not-last e = never (collides a b) (λ c. clash (both c .second-last) e)
+  second-not-last e = second-silent (not-last-silent b e)
+
+  -- and one of the hypervisor's own
+  pub first-marked : isUnmarked a ≡ false → collides a b ≡ false
+  first-marked e = first-silent (marked-silent a e)
+
+  pub second-marked : isUnmarked b ≡ false → collides a b ≡ false
+  second-marked e = second-silent (marked-silent b e)
 
 -- either way round
 eqb-sym : (x y : ℕ) → eqb x y ≡ eqb y x
@@ -84,8 +98,8 @@ turned a b e =
     let c = both a b e in
     is-both b a
     (record {
-      first-last = c .second-last;
-      second-last = c .first-last;
+      first-answers = c .second-answers;
+      second-answers = c .first-answers;
       one-kind = sym (c .one-kind);
       share = sym (shares-sym a b (c .one-kind)) ∙ c .share;
     })
@@ -105,3 +119,7 @@ module _ (m : List ℕ) (n : ℕ) (words : Row) where
   pub is-alone : ((j : ℕ) → j < n → collides words (rowAt m j) ≡ false) → doubled m n words ≡ false
   unfolding doubled collidesAt
   is-alone f = ap isFound (from-zero (collidesAt m words) n ∙ is-none (collidesAt m words) n 0 (omega arith) (λ j a h. f j h))
+
+  -- marked words always are
+  pub marked-alone : isUnmarked words ≡ false → doubled m n words ≡ false
+  marked-alone e = is-alone (λ j h. first-marked words (rowAt m j) e)

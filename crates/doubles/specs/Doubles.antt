@@ -1,4 +1,4 @@
--- Document 02, T-02: which rows could answer the same lookup.
+-- Document 02, T-02 and T-05: which rows could answer the same lookup.
 -- Assumes nothing.
 use Prim.Native.Nat.{ℕ, _^_}
 use mathlib.Core.Bool.{Bool, true, false, _&&_, _||_}
@@ -38,9 +38,9 @@ shares a b =
     (pick (eqb (rows.kind a) rows.cd) (sameContext a b)
     (pick (eqb (rows.kind a) rows.stage2) (sharesStage a b) (sharesStage a b && sharesAsid a b)))
 
--- both are last-level, of one kind, and could answer the same lookup
+-- both are last-level and unmarked, of one kind, and could answer the same lookup
 unfoldable pub collides : Row → Row → Bool
-collides a b = rows.isLast a && rows.isLast b && eqb (rows.kind a) (rows.kind b) && shares a b
+collides a b = rows.mayAnswer a && rows.mayAnswer b && eqb (rows.kind a) (rows.kind b) && shares a b
 
 unfoldable pub collidesAt : List ℕ → Row → ℕ → Bool
 collidesAt m words i = collides words (rowAt m i)

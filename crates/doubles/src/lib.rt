@@ -55,11 +55,14 @@ fn shares(a: Row, b: Row) -> bool
     shares_stage(a, b) & shares_asid(a, b)
 }
 
-// An empty row is not last-level, so it collides with none.
+// An empty row is not last-level, so it collides with none, and neither does a marked one.
 fn collides(a: Row, b: Row) -> bool
     ensures { λ r. ⌜ r ≡ collides a b ⌝ }
 {
-    rows::is_last(a) & rows::is_last(b) & (rows::kind_of(a) == rows::kind_of(b)) & shares(a, b)
+    rows::may_answer(a)
+        & rows::may_answer(b)
+        & (rows::kind_of(a) == rows::kind_of(b))
+        & shares(a, b)
 }
 
 fn collides_at(kept: &[u64], words: Row, i: usize) -> bool

@@ -1,5 +1,5 @@
 // Document 02, T-09: the illegal commands of a queue, for a technician: slot, code, why, and the Reserved bits that are set.
-// Standard input has the features as one hexadecimal digit and the line's end, then the bytes of the queue.
+// Standard input has the features as two hexadecimal digits and the line's end, then the bytes of the queue.
 use commands::Decoded;
 use commands::Features;
 use commands::Reason;
@@ -10,7 +10,8 @@ ghost use Prim.Native.Nat.{_+_, _*_, _≤_, _<_};
 ghost use lib.ListN.{length};
 
 fn main() {
-    let f = commands::features_of(text::digit(text::next()));
+    let high = text::digit(text::next());
+    let f = commands::features_of(16 * high + text::digit(text::next()));
     text::next();
     let mut input = io::large_buffer();
     let n = io::read_full(STDIN_FILENO, &mut input);

@@ -1,4 +1,4 @@
-// What a C caller is told: document 01's numbers for the enums' cases.
+// What a C caller is told: the papers' numbers for the enums' cases.
 use crate::Reply;
 use commands::Reason;
 use control_calls::AcknowledgeAnswer;

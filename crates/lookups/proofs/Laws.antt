@@ -1,4 +1,4 @@
--- Which row answers: the lowest that fits, a last-level one; and what may change in memory without changing it.
+-- Which row answers: the lowest that fits, a last-level one without a mark; and what may change in memory without changing it.
 -- Assumes nothing.
 use mathlib.Core.Path.{_≡_, refl, sym, ap, _∙_}
 use mathlib.Core.Bool.{Bool, true, false, _&&_}
@@ -12,7 +12,8 @@ use Rattle.words.specs.declared.Found.the-variants.{At, Nothing}
 use Rattle.words.proofs.Truth.{left, right, clash}
 use Rattle.words.proofs.Search.{Lowest, from-zero, found, lowest-same}
 use Rattle.rows.specs.declared.Row.{Row}
-use Rattle.rows.specs.Rows.{isLast}
+use Rattle.rows.specs.Rows.{isLast, isUnmarked, mayAnswer}
+use Rattle.rows.proofs.LastLevel.{answers-last, answers-unmarked}
 use Rattle.image.specs.Image.{rowsIn, rowAt}
 use Rattle.lookups.specs.declared.Wanted.{Wanted}
 use Rattle.lookups.specs.declared.Looked.{Looked}
@@ -30,14 +31,20 @@ is-lowest m w i e = found (answersAt m w) (rowsIn m) 0 i (omega arith) (sym (fro
 pub found-below : (m : List ℕ) (w : Wanted) (i : ℕ) → find m w ≡ At i → i < rowsIn m
 found-below m w i e = is-lowest m w i e .below
 
--- it is last-level, and fits
-pub only-last : (w : Wanted) (row : Row) → answers w row ≡ true → isLast row ≡ true
+-- it is last-level and unmarked, and fits
+pub only-answerers : (w : Wanted) (row : Row) → answers w row ≡ true → mayAnswer row ≡ true
 unfolding answers
-only-last w row e = left (isLast row) (fits w row) e
+only-answerers w row e = left (mayAnswer row) (fits w row) e
+
+pub only-last : (w : Wanted) (row : Row) → answers w row ≡ true → isLast row ≡ true
+only-last w row e = answers-last row (only-answerers w row e)
+
+pub only-unmarked : (w : Wanted) (row : Row) → answers w row ≡ true → isUnmarked row ≡ true
+only-unmarked w row e = answers-unmarked row (only-answerers w row e)
 
 pub answers-fits : (w : Wanted) (row : Row) → answers w row ≡ true → fits w row ≡ true
 unfolding answers
-answers-fits w row e = right (isLast row) (fits w row) e
+answers-fits w row e = right (mayAnswer row) (fits w row) e
 
 -- a hit: its place and its row
 pub record HitAt (m : List ℕ) (w : Wanted) (row : Row) : Type 0 where
@@ -58,9 +65,9 @@ module _ (m : List ℕ) (w : Wanted) where
   unfolding answersAt
   hit-answers row h = let at = hit-at row h in rw (← at .row-is) (at .lowest-is .passes)
 
--- two rows of which a lookup makes the same: the same row, or neither last-level
+-- two rows of which a lookup makes the same: the same row, or neither may answer
 abbrev pub Alike : Row → Row → Type 0
-Alike row row′ = (row ≡ row′) ⊎ ((isLast row ≡ false) × (isLast row′ ≡ false))
+Alike row row′ = (row ≡ row′) ⊎ ((mayAnswer row ≡ false) × (mayAnswer row′ ≡ false))
 
 alike-answers : (w : Wanted) (row row′ : Row) → Alike row row′ → answers w row ≡ answers w row′
 unfolding answers
@@ -76,8 +83,8 @@ module _ (m m′ : List ℕ) (w : Wanted) (rows : rowsIn m ≡ rowsIn m′) (ali
   unfolding look answersAt
   look-same = rw find-same (by-find (find m′ w) refl)
     where
-      answered : (i : ℕ) → Answerer m′ w i → isLast (rowAt m′ i) ≡ true
-      answered i a = only-last w (rowAt m′ i) (a .passes)
+      answered : (i : ℕ) → Answerer m′ w i → mayAnswer (rowAt m′ i) ≡ true
+      answered i a = only-answerers w (rowAt m′ i) (a .passes)
 
       by-find : (f : Found) → find m′ w ≡ f → rowFound m f ≡ rowFound m′ f
       by-find (At i) e =

@@ -1,4 +1,4 @@
--- Document 01, A transaction: the row that answers a step.
+-- Document 01, A transaction, and document 02, T-05: the row that answers a step.
 -- Assumes nothing.
 use Prim.Native.Nat.{ℕ}
 use mathlib.Core.Bool.{Bool, _&&_, _||_}
@@ -28,9 +28,9 @@ fits (Stage1 vmid asid address) row =
 fits (Stage2 vmid address) row =
     eqb (rows.kind row) rows.stage2 && eqb (rows.vmid row) vmid && rows.covers row address
 
--- only a last-level row answers
+-- only a last-level row answers, and none of the hypervisor's own
 unfoldable pub answers : Wanted → Row → Bool
-answers w row = rows.isLast row && fits w row
+answers w row = rows.mayAnswer row && fits w row
 
 unfoldable pub answersAt : List ℕ → Wanted → ℕ → Bool
 answersAt m w i = answers w (rowAt m i)

@@ -1,4 +1,4 @@
-// Which row answers a step of a transaction: the lowest last-level row that fits what the step wants.
+// Which row answers a step of a transaction: the lowest last-level, unmarked row that fits what the step wants.
 use rows::Row;
 use rows::kinds;
 use words::Found;
@@ -44,11 +44,11 @@ fn fits(w: Wanted, row: Row) -> bool
     }
 }
 
-// A row that is not last-level never answers, nor does an empty one, whose word 0 is 0.
+// A row that is not last-level never answers, nor does a marked one, nor an empty one, whose word 0 is 0.
 fn answers(w: Wanted, row: Row) -> bool
     ensures { λ r. ⌜ r ≡ answers w row ⌝ }
 {
-    rows::is_last(row) & fits(w, row)
+    rows::may_answer(row) & fits(w, row)
 }
 
 fn answers_at(kept: &[u64], w: Wanted, i: usize) -> bool

@@ -13,5 +13,5 @@ use Rattle.scopes.specs.Scopes as scopes
 use Rattle.promises.specs.Bench.{starred, agree}
 
 pub bench : agree starred ≡ true
-unfolding part isSet put joined setOnly indexes.distance indexes.slot indexes.next indexes.inRange indexes.wellFormed control.active control.wellFormed control.standing control.distance control.slot stores.consumed combining.combine combining.number combining.memAttrOf combining.shOf decoding.knownCode decoding.featurePresent decoding.clean decoding.parameterGood decoding.isLegal decoding.commandOf decoding.decode scopes.steOf scopes.cdOf scopes.stageOf scopes.removes scopes.tooWide scopes.idle scopes.inScope
+unfolding part isSet put joined setOnly indexes.distance indexes.slot indexes.next indexes.inRange indexes.wellFormed control.active control.wellFormed control.standing control.distance control.slot stores.consumed combining.combine combining.number combining.memAttrOf combining.shOf decoding.knownCode decoding.featurePresent decoding.clean decoding.parameterGood decoding.isLegal decoding.commandOf decoding.decode scopes.steOf scopes.cdOf scopes.stageOf scopes.removes scopes.inRegime scopes.tooWide scopes.idle scopes.inScope
 bench = refl

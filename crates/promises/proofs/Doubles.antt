@@ -23,7 +23,7 @@ use Rattle.doubles.proofs.Laws.{Both, both, is-both}
 use Rattle.lookups.specs.declared.Wanted.{Wanted}
 use Rattle.lookups.specs.declared.Wanted.the-variants.{Ste, Cd, Stage1, Stage2}
 use Rattle.lookups.specs.Lookups.{fits, answers, answersAt}
-use Rattle.lookups.proofs.Laws.{only-last, answers-fits}
+use Rattle.lookups.proofs.Laws.{only-answerers, answers-fits}
 use Rattle.promises.specs.Doubles.{Answered, Single}
 
 same : (x : ℕ) → eqb x x ≡ true
@@ -61,8 +61,8 @@ module _ (a b : Row) (c : Both a b) where
       let own : kind b ≡ ste = sym (c .one-kind) ∙ k in
       record {
         wanted = Ste (stream a);
-        first = and-true (c .first-last) (and-true (eq-eqb (kind a) ste k) (same (stream a)));
-        second = and-true (c .second-last) (and-true (eq-eqb (kind b) ste own) (eq-eqb (stream b) (stream a) (sym (eqb-true (stream a) (stream b) streams))));
+        first = and-true (c .first-answers) (and-true (eq-eqb (kind a) ste k) (same (stream a)));
+        second = and-true (c .second-answers) (and-true (eq-eqb (kind b) ste own) (eq-eqb (stream b) (stream a) (sym (eqb-true (stream a) (stream b) streams))));
       }
 
   cd-answered : kind a ≡ cd → Answered a b
@@ -74,8 +74,8 @@ module _ (a b : Row) (c : Both a b) where
       let u = eqb-true (substream a) (substream b) (right (sameStream a b) (eqb (substream a) (substream b)) both-same) in
       record {
         wanted = Cd (stream a) (substream a);
-        first = and-true (c .first-last) (and-true (and-true (eq-eqb (kind a) cd k) (same (stream a))) (same (substream a)));
-        second = and-true (c .second-last) (and-true (and-true (eq-eqb (kind b) cd own) (eq-eqb (stream b) (stream a) (sym s))) (eq-eqb (substream b) (substream a) (sym u)));
+        first = and-true (c .first-answers) (and-true (and-true (eq-eqb (kind a) cd k) (same (stream a))) (same (substream a)));
+        second = and-true (c .second-answers) (and-true (and-true (eq-eqb (kind b) cd own) (eq-eqb (stream b) (stream a) (sym s))) (eq-eqb (substream b) (substream a) (sym u)));
       }
 
   stage2-answered : kind a ≡ stage2 → Answered a b
@@ -87,8 +87,8 @@ module _ (a b : Row) (c : Both a b) where
       let x = right (eqb (vmid a) (vmid b)) (sharesAddress a b) stage in
       record {
         wanted = Stage2 (vmid a) (later a b x);
-        first = and-true (c .first-last) (and-true (and-true (eq-eqb (kind a) stage2 k) (same (vmid a))) (first-covers a b x));
-        second = and-true (c .second-last) (and-true (and-true (eq-eqb (kind b) stage2 own) (eq-eqb (vmid b) (vmid a) (sym v))) (second-covers a b x));
+        first = and-true (c .first-answers) (and-true (and-true (eq-eqb (kind a) stage2 k) (same (vmid a))) (first-covers a b x));
+        second = and-true (c .second-answers) (and-true (and-true (eq-eqb (kind b) stage2 own) (eq-eqb (vmid b) (vmid a) (sym v))) (second-covers a b x));
       }
 
   -- an ASID that both take: a global row takes the other's
@@ -119,8 +119,8 @@ module _ (a b : Row) (c : Both a b) where
       let x = right (eqb (vmid a) (vmid b)) (sharesAddress a b) stage in
       record {
         wanted = Stage1 (vmid a) commonAsid (later a b x);
-        first = and-true (c .first-last) (and-true (and-true (and-true (eq-eqb (kind a) stage1 k) (same (vmid a))) first-takes) (first-covers a b x));
-        second = and-true (c .second-last) (and-true (and-true (and-true (eq-eqb (kind b) stage1 own) (eq-eqb (vmid b) (vmid a) (sym v))) (second-takes (right (sharesStage a b) (sharesAsid a b) shared))) (second-covers a b x));
+        first = and-true (c .first-answers) (and-true (and-true (and-true (eq-eqb (kind a) stage1 k) (same (vmid a))) first-takes) (first-covers a b x));
+        second = and-true (c .second-answers) (and-true (and-true (and-true (eq-eqb (kind b) stage1 own) (eq-eqb (vmid b) (vmid a) (sym v))) (second-takes (right (sharesStage a b) (sharesAsid a b) shared))) (second-covers a b x));
       }
 
 -- the lookup found has numbers of the two rows: a stream, a substream, a VMID, an ASID, a beginning
@@ -212,7 +212,7 @@ module _ (a b : Row) where
   answered-collides t =
       let w = t .wanted in
       let s = fit-share w (answers-fits w a (t .first)) (answers-fits w b (t .second)) in
-      is-both a b (record { first-last = only-last w a (t .first); second-last = only-last w b (t .second); one-kind = s .0; share = s .1 })
+      is-both a b (record { first-answers = only-answerers w a (t .first); second-answers = only-answerers w b (t .second); one-kind = s .0; share = s .1 })
 
 -- in an image without doubles one row at most answers a lookup
 pub one-answers : (m : List ℕ) (n : ℕ) → Single m n → (w : Wanted) (i j : ℕ) → i < n → j < n → answersAt m w i ≡ true → answersAt m w j ≡ true → i ≡ j

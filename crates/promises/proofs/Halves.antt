@@ -6,19 +6,21 @@ use mathlib.Core.Bool.{true, false, not, _&&_, _||_}
 use Prim.Native.Nat.{ℕ, _^_, _≤_}
 use native.Mathlib.Omega.{arith}
 use lib.Dec.{eqb}
-use borrow.Author.Tests.{eqb-true, not-true}
+use borrow.Author.Tests.{eqb-true}
 use Rattle.words.proofs.Truth.{left, right, never}
 use Rattle.rows.specs.declared.Row.{Row}
-use Rattle.rows.specs.Rows.{stage1, stage2, kind, isEmpty, isLast, isGlobal, vmid, asid, covers}
+use Rattle.rows.specs.Rows.{stage1, stage2, kind, isEmpty, mayAnswer, isGlobal, vmid, asid, covers, isUnmarked}
 use Rattle.rows.proofs.LastLevel.{last-is-used}
 use Rattle.row_forms.specs.WellFormed.{addressBits, document01, wellFormedBy}
 use Rattle.row_forms.proofs.Halves.{stage-formed, low-only}
 use Rattle.commands.specs.declared.Features.{Features}
 use Rattle.commands.specs.declared.Target.{Target}
 use Rattle.commands.specs.declared.Command.the-variants.{TlbiNhVa, TlbiNhVaa}
-use Rattle.scopes.specs.Scopes.{spared, stageOf, stageAt, addressOf, hasAsid, removes, tooWide, inScope}
+use Rattle.scopes.specs.Scopes.{spared, ofStage, stageOf, stageAt, addressOf, hasAsid, removes, inScope}
+use Rattle.scopes.proofs.Laws.{scoped}
 use Rattle.lookups.specs.declared.Wanted.the-variants.{Stage1, Stage2}
 use Rattle.lookups.specs.Lookups.{fits, answers}
+use Rattle.lookups.proofs.Laws.{only-last}
 
 module _ (row : Row) (old : wellFormedBy document01 row ≡ true) where
   -- such a row covers no address of the upper half
@@ -32,54 +34,48 @@ module _ (row : Row) (old : wellFormedBy document01 row ≡ true) where
     unfolding stageAt stageOf
     missed u e =
         let k = eqb (kind row) stage1 in
+        let o = ofStage row stage1 in
         let v = eqb (vmid row) id in
         let c = covers row (addressOf (target .page)) in
-        not-above stage1 (addressOf (target .page)) u (left k v (left (k && v) c e)) refl refl h (right (k && v) c e)
+        not-above stage1 (addressOf (target .page)) u (left k (isUnmarked row) (left o v (left (o && v) c e))) refl refl h (right (o && v) c e)
 
     -- no command that aims there removes it
     pub va-spares : (s : ℕ) → inScope f (TlbiNhVa id s target) row ≡ false
-    unfolding inScope removes
+    unfolding removes
     va-spares s =
-        let used = not (isEmpty row) in
-        let narrow = not (tooWide f (TlbiNhVa id s target)) in
         let at = stageAt row stage1 id target in
         let own = hasAsid row s || isGlobal row in
-        let leaf = not (spared row (target .leaf)) in
         never (inScope f (TlbiNhVa id s target) row)
-        (λ e. missed (not-true (isEmpty row) (left used narrow (left (used && narrow) (at && own && leaf) e)))
-        (left at own (left (at && own) leaf (right (used && narrow) (at && own && leaf) e))))
+        (λ e. let in-it = scoped f (TlbiNhVa id s target) row e in
+        missed (in-it .used) (left at own (left (at && own) (not (spared row (target .leaf))) (in-it .removed))))
 
     pub vaa-spares : inScope f (TlbiNhVaa id target) row ≡ false
-    unfolding inScope removes
+    unfolding removes
     vaa-spares =
-        let used = not (isEmpty row) in
-        let narrow = not (tooWide f (TlbiNhVaa id target)) in
-        let at = stageAt row stage1 id target in
-        let leaf = not (spared row (target .leaf)) in
         never (inScope f (TlbiNhVaa id target) row)
-        (λ e. missed (not-true (isEmpty row) (left used narrow (left (used && narrow) (at && leaf) e)))
-        (left at leaf (right (used && narrow) (at && leaf) e)))
+        (λ e. let in-it = scoped f (TlbiNhVaa id target) row e in
+        missed (in-it .used) (left (stageAt row stage1 id target) (not (spared row (target .leaf))) (in-it .removed)))
 
   -- and it answers no transaction there
   pub stage1-unanswered : (id s a : ℕ) → 2 ^ addressBits ≤ a → answers (Stage1 id s a) row ≡ false
   unfolding answers fits
   stage1-unanswered id s a h =
-      let l = isLast row in
+      let l = mayAnswer row in
       let k = eqb (kind row) stage1 in
       let v = eqb (vmid row) id in
       let g = isGlobal row || eqb (asid row) s in
       let c = covers row a in
       never (answers (Stage1 id s a) row)
       (λ e. let all = right l (k && v && g && c) e in
-      not-above stage1 a (last-is-used row (left l (k && v && g && c) e)) (left k v (left (k && v) g (left (k && v && g) c all))) refl refl h (right (k && v && g) c all))
+      not-above stage1 a (last-is-used row (only-last (Stage1 id s a) row e)) (left k v (left (k && v) g (left (k && v && g) c all))) refl refl h (right (k && v && g) c all))
 
   pub stage2-unanswered : (id a : ℕ) → 2 ^ addressBits ≤ a → answers (Stage2 id a) row ≡ false
   unfolding answers fits
   stage2-unanswered id a h =
-      let l = isLast row in
+      let l = mayAnswer row in
       let k = eqb (kind row) stage2 in
       let v = eqb (vmid row) id in
       let c = covers row a in
       never (answers (Stage2 id a) row)
       (λ e. let all = right l (k && v && c) e in
-      not-above stage2 a (last-is-used row (left l (k && v && c) e)) (left k v (left (k && v) c all)) refl refl h (right (k && v) c all))
+      not-above stage2 a (last-is-used row (only-last (Stage2 id a) row e)) (left k v (left (k && v) c all)) refl refl h (right (k && v) c all))

@@ -19,3 +19,4 @@ pub mod Calls
 pub mod Filling
 pub mod Numbers
 pub mod Recorder
+pub mod Marks

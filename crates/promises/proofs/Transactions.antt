@@ -1,18 +1,16 @@
 -- Demands 2 and 3, of transactions: a half-filled row is not seen, and a row that a consumed command removed answers no more.
 -- Assumes nothing.
 use mathlib.Core.Path.{_≡_, refl, sym, ap, _∙_}
-use mathlib.Core.Bool.{true, false}
+use mathlib.Core.Bool.{false}
 use mathlib.Core.List.{List}
-use mathlib.Core.Logic.{_⊎_, inl, inr, ⊎-elim}
+use mathlib.Core.Logic.{inl, inr}
 use Prim.Native.Nat.{ℕ, _<_}
 use native.Mathlib.Decide.{ℕ-discrete}
 use native.Mathlib.Omega.{arith}
 use Rattle.words.specs.declared.Found.the-variants.{At}
 use Rattle.words.specs.Outcomes.{Outcome}
-use Rattle.words.proofs.Truth.{clash, decided}
 use Rattle.rows.specs.declared.Row.{Row}
-use Rattle.rows.specs.Rows.{isEmpty, isLast}
-use Rattle.rows.proofs.LastLevel.{last-is-used}
+use Rattle.rows.proofs.LastLevel.{empty-silent}
 use Rattle.commands.specs.declared.Features.{Features}
 use Rattle.commands.specs.declared.Command.{Command}
 use Rattle.commands.specs.declared.Decoded.the-variants.{Legal}
@@ -33,9 +31,6 @@ use Rattle.promises.specs.Found.{commandAt}
 use Rattle.promises.proofs.Accepted.{run-accepted}
 use Rattle.promises.proofs.Finding.{found-after}
 
-empty-not-last : (row : Row) → isEmpty row ≡ true → isLast row ≡ false
-empty-not-last row e = ⊎-elim (λ l. clash e (last-is-used row l)) (λ l. l) (decided (isLast row))
-
 -- after any number of stores below 4 every transaction is answered as before the fill, whatever was to be filled
 module _ (m : List ℕ) (row : ℕ) (words : Row) (k : ℕ) (h : k < 4) (t : Transaction) where
   carried-unseen : (n : ℕ) → Carried m n row words → translate (fill m row words k .memory) t ≡ translate m t
@@ -45,7 +40,7 @@ module _ (m : List ℕ) (row : ℕ) (words : Row) (k : ℕ) (h : k < 4) (t : Tra
     where
       alike : (i : ℕ) → Dec (i ≡ row) → Alike (rowAt (fill m row words k .memory) i) (rowAt m i)
       alike i (yes s) =
-          inr (rw s (empty-not-last (rowAt (fill m row words k .memory) row) (half-filled m n row words c k h), empty-not-last (rowAt m row) (c .empty)))
+          inr (rw s (empty-silent (rowAt (fill m row words k .memory) row) (half-filled m n row words c k h), empty-silent (rowAt m row) (c .empty)))
       alike i (no d) = inl (other-rows-kept m n row words c k i d)
 
   pub half-filled-unseen : translate (fill m row words k .memory) t ≡ translate m t

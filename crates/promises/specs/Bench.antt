@@ -13,7 +13,7 @@ use Rattle.combining.specs.Combining.{combine}
 use Rattle.rows.specs.declared.Row.{Row}
 use Rattle.commands.specs.declared.Features.{Features}
 use Rattle.commands.specs.declared.Command.{Command}
-use Rattle.commands.specs.declared.Command.the-variants.{PrefetchConfig, PrefetchAddr, CfgiSte, CfgiSteRange, CfgiCd, CfgiCdAll, TlbiNhAll, TlbiNhAsid, TlbiNhVa, TlbiNhVaa, TlbiS12Vmall, TlbiS2Ipa, TlbiNsnhAll, Sync}
+use Rattle.commands.specs.declared.Command.the-variants.{PrefetchConfig, PrefetchAddr, CfgiSte, CfgiSteRange, CfgiCd, CfgiCdAll, TlbiNhAll, TlbiNhAsid, TlbiNhVa, TlbiNhVaa, TlbiEl2All, TlbiEl2Asid, TlbiEl2Va, TlbiEl2Vaa, TlbiS12Vmall, TlbiS2Ipa, TlbiNsnhAll, Sync}
 use Rattle.commands.specs.declared.Decoded.{Decoded}
 use Rattle.commands.specs.declared.Decoded.the-variants.{Legal, Illegal}
 use Rattle.commands.specs.Decoding.{decode, isCounted}
@@ -35,6 +35,10 @@ spelled (Legal (TlbiNhAll vmid)) = 0x10 ∷ vmid ∷ []
 spelled (Legal (TlbiNhAsid vmid asid)) = 0x11 ∷ vmid ∷ asid ∷ []
 spelled (Legal (TlbiNhVa vmid asid target)) = 0x12 ∷ vmid ∷ asid ∷ truth (target .leaf) ∷ target .page ∷ []
 spelled (Legal (TlbiNhVaa vmid target)) = 0x13 ∷ vmid ∷ truth (target .leaf) ∷ target .page ∷ []
+spelled (Legal TlbiEl2All) = 0x20 ∷ []
+spelled (Legal (TlbiEl2Asid asid)) = 0x21 ∷ asid ∷ []
+spelled (Legal (TlbiEl2Va asid target)) = 0x22 ∷ asid ∷ truth (target .leaf) ∷ target .page ∷ []
+spelled (Legal (TlbiEl2Vaa target)) = 0x23 ∷ truth (target .leaf) ∷ target .page ∷ []
 spelled (Legal (TlbiS12Vmall vmid)) = 0x28 ∷ vmid ∷ []
 spelled (Legal (TlbiS2Ipa vmid target)) = 0x2A ∷ vmid ∷ truth (target .leaf) ∷ target .page ∷ []
 spelled (Legal TlbiNsnhAll) = 0x30 ∷ []
@@ -53,11 +57,12 @@ abbrev removing : Features → Decoded → Row → ℕ
 removing f (Illegal why) row = 0
 removing f (Legal c) row = truth (inScope f c row)
 
+-- the features of document 01
 abbrev allYes : Features
-allYes = record { s1p = true; s2p = true; asid16 = true; vmid16 = true }
+allYes = record { s1p = true; s2p = true; asid16 = true; vmid16 = true; hyp = false; e2h = false }
 
 abbrev noAsid16 : Features
-noAsid16 = record { s1p = true; s2p = true; asid16 = false; vmid16 = true }
+noAsid16 = record { s1p = true; s2p = true; asid16 = false; vmid16 = true; hyp = false; e2h = false }
 
 -- a last-level STE row of a stream, with Config 4; a last-level stage 1 row of VMID 5 and ASID 0x1234
 abbrev steRow : ℕ → Row

@@ -1,4 +1,4 @@
--- Document 02, T-04: a row lies in one half of the addresses, and what document 01 accepted is still well formed.
+-- Document 02, T-04 and T-05: a row lies in one half of the addresses, and what document 01 accepted is still well formed.
 -- Assumes nothing.
 use mathlib.Core.Path.{_≡_, sym, ap, _∙_}
 use mathlib.Core.Bool.{Bool, true, false, not, _&&_, _||_}
@@ -14,9 +14,9 @@ use Rattle.words.specs.Ranges.{get}
 use Rattle.words.proofs.Truth.{left, right, and-true, or-left, and-widened, or-widened, pick-widened}
 use Rattle.attributes.specs.Formats as attributes
 use Rattle.rows.specs.declared.Row.{Row}
-use Rattle.rows.specs.Rows.{ste, cd, stage1, kind, isLast, isEmpty, span, validBits, attributesOf, covers}
+use Rattle.rows.specs.Rows.{ste, cd, stage1, kind, isLast, isEmpty, span, vmid, asid, isGlobal, mark, isUnmarked, el2, el2E2h, validBits, attributesOf, covers}
 use Rattle.rows.proofs.Covering.{covers-means}
-use Rattle.row_forms.specs.WellFormed.{onlyNamed, steGood, addressBits, placed, halfBits, allOnes, inHalf, begins, RowRules, document01, present, stageGoodBy, stageGood, goodBy, wellFormedBy, wellFormed}
+use Rattle.row_forms.specs.WellFormed.{onlyNamed, steGood, addressBits, placed, halfBits, allOnes, inHalf, begins, markGood, RowRules, document01, present, stageGoodBy, stageGood, goodBy, wellFormedBy, wellFormed}
 use Rattle.row_forms.proofs.LastLevel.{room}
 
 -- Above bit k, each of the 2 ^ n bytes from an aligned address on is what the first is.
@@ -66,11 +66,19 @@ stage-formed rules row f u s c =
 
 -- the span and the input address of a stage row
 module _ (rules : RowRules) (row : Row) (g : stageGoodBy rules row ≡ true) where
+  places : Bool
+  places = leb 12 (span row) && leb (span row) 48 && rules .begin (kind row) (span row) (row .w2)
+
+  outputs : Bool
+  outputs = not (isLast row) || (placed (span row) (row .w3) && attributes.wellFormed (attributesOf row))
+
   asked : (leb 12 (span row) && leb (span row) 48 && rules .begin (kind row) (span row) (row .w2)) ≡ true
-  unfolding stageGoodBy
-  asked =
-      left (leb 12 (span row) && leb (span row) 48 && rules .begin (kind row) (span row) (row .w2))
-      (not (isLast row) || (placed (span row) (row .w3) && attributes.wellFormed (attributesOf row))) g
+  unfolding stageGoodBy places outputs
+  asked = left places outputs (left (places && outputs) (rules .marks row) g)
+
+  pub mark-asked : rules .marks row ≡ true
+  unfolding stageGoodBy places outputs
+  mark-asked = right (places && outputs) (rules .marks row) g
 
   short : span row ≤ addressBits
   short =
@@ -100,6 +108,7 @@ low-only row g a c =
 -- each rule takes what the other took
 pub record Wider (old new : RowRules) : Type 0 where
   pub begin : (k n a : ℕ) → old .begin k n a ≡ true → new .begin k n a ≡ true
+  pub marks : (row : Row) → old .marks row ≡ true → new .marks row ≡ true
 
 module _ (old new : RowRules) (wider : Wider old new) (row : Row) where
   stage-widened : stageGoodBy old row ≡ true → stageGoodBy new row ≡ true
@@ -108,9 +117,12 @@ module _ (old new : RowRules) (wider : Wider old new) (row : Row) where
       let spans = leb 12 (span row) && leb (span row) 48 in
       let begun : RowRules → Bool = λ rules. rules .begin (kind row) (span row) (row .w2) in
       let rest = not (isLast row) || (placed (span row) (row .w3) && attributes.wellFormed (attributesOf row)) in
+      let all = left (spans && begun old && rest) (old .marks row) e in
       and-true
-      (and-widened spans (begun old) (wider .begin (kind row) (span row) (row .w2)) (left (spans && begun old) rest e))
-      (right (spans && begun old) rest e)
+      (and-true
+      (and-widened spans (begun old) (wider .begin (kind row) (span row) (row .w2)) (left (spans && begun old) rest all))
+      (right (spans && begun old) rest all))
+      (wider .marks row (right (spans && begun old && rest) (old .marks row) e))
 
   good-widened : goodBy old row ≡ true → goodBy new row ≡ true
   unfolding goodBy
@@ -146,8 +158,14 @@ module _ (n a : ℕ) (e : placed n a ≡ true) where
   unfolding begins
   placed-begins k = either-way (eqb k stage1)
 
+unmarked-good : (row : Row) → isUnmarked row ≡ true → markGood row ≡ true
+unfolding markGood
+unmarked-good row =
+    or-left (isUnmarked row)
+    (eqb (vmid row) 0 && (eqb (mark row) el2E2h || (eqb (mark row) el2 && eqb (asid row) 0 && not (isGlobal row))))
+
 pub rows-wider : Wider document01 present
-rows-wider = record { begin = λ k n a e. placed-begins n a e k }
+rows-wider = record { begin = λ k n a e. placed-begins n a e k; marks = unmarked-good }
 
 -- no row of document 01 is ill formed now, which is what refusals 3 and 9 ask
 pub still-formed : (row : Row) → wellFormedBy document01 row ≡ true → wellFormed row ≡ true

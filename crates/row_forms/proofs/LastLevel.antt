@@ -16,7 +16,7 @@ use Rattle.attributes.specs.Formats as attributes
 use Rattle.rows.specs.declared.Row.{Row}
 use Rattle.rows.specs.Rows.{ste, cd, kind, isLast, isEmpty, span, config, newMemAttr, validBits, attributesOf}
 use Rattle.rows.proofs.LastLevel.{last-is-used}
-use Rattle.row_forms.specs.WellFormed.{onlyNamed, knownConfig, steGood, addressBits, placed, begins, stageGood, stageGoodBy, good, goodBy, wellFormed, wellFormedBy}
+use Rattle.row_forms.specs.WellFormed.{onlyNamed, knownConfig, steGood, addressBits, placed, begins, markGood, stageGoodBy, good, goodBy, wellFormed, wellFormedBy}
 
 module _ (row : Row) (f : wellFormed row ≡ true) (l : isLast row ≡ true) where
   last-good : good row ≡ true
@@ -32,24 +32,24 @@ module _ (row : Row) (f : wellFormed row ≡ true) (l : isLast row ≡ true) whe
 
   -- a stage row has a span and an output address within their limits, and well-formed attributes
   module _ (s : eqb (kind row) ste ≡ false) (c : eqb (kind row) cd ≡ false) where
-    stage-good : stageGood row ≡ true
-    unfolding goodBy
-    stage-good = rw (s, c) at last-good
+    asked : (leb 12 (span row) && leb (span row) 48 && begins (kind row) (span row) (row .w2) && (not (isLast row) || (placed (span row) (row .w3) && attributes.wellFormed (attributesOf row)))) ≡ true
+    unfolding goodBy stageGoodBy
+    asked =
+        left (leb 12 (span row) && leb (span row) 48 && begins (kind row) (span row) (row .w2) && (not (isLast row) || (placed (span row) (row .w3) && attributes.wellFormed (attributesOf row))))
+        (markGood row) (rw (s, c) at last-good)
 
     pub span-few : span row ≤ 48
-    unfolding stageGoodBy
     span-few =
         let a = leb 12 (span row) in
         let b = leb (span row) 48 in
         let p = begins (kind row) (span row) (row .w2) in
-        leb-true (span row) 48 (right a b (left (a && b) p (left (a && b && p) (not (isLast row) || (placed (span row) (row .w3) && attributes.wellFormed (attributesOf row))) stage-good)))
+        leb-true (span row) 48 (right a b (left (a && b) p (left (a && b && p) (not (isLast row) || (placed (span row) (row .w3) && attributes.wellFormed (attributesOf row))) asked)))
 
     output : (placed (span row) (row .w3) && attributes.wellFormed (attributesOf row)) ≡ true
-    unfolding stageGoodBy
     output =
         then-true
         (right (leb 12 (span row) && leb (span row) 48 && begins (kind row) (span row) (row .w2))
-        (not (isLast row) || (placed (span row) (row .w3) && attributes.wellFormed (attributesOf row))) stage-good)
+        (not (isLast row) || (placed (span row) (row .w3) && attributes.wellFormed (attributesOf row))) asked)
         l
 
     pub output-placed : placed (span row) (row .w3) ≡ true

@@ -1,3 +1,4 @@
 pub mod Masks
 pub mod LastLevel
 pub mod Halves
+pub mod Marks

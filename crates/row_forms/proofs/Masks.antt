@@ -17,11 +17,11 @@ abbrev pub masks : List ℕ
 masks =
     0x7ef ∷ 0xffffffff ∷ 0 ∷ 0
     ∷ 0xf ∷ 0xffffffff ∷ 0 ∷ 0
-    ∷ 0xffffffff07ff ∷ 0 ∷ 0xffffffffffffffff ∷ 0
+    ∷ 0xffffffff1fff ∷ 0 ∷ 0xffffffffffffffff ∷ 0
     ∷ 0xffff07ef ∷ 0 ∷ 0xffffffffffffffff ∷ 0
     ∷ 0x7fff0000ffff000f ∷ 0x700000ffffffff ∷ 0 ∷ 0
     ∷ 0xffff0000000f ∷ 0xfffffffffffff ∷ 0 ∷ 0
-    ∷ 0xfffffffffff07ff ∷ 0 ∷ 0xffffffffffffffff ∷ 0xffffffffffffffff
+    ∷ 0xfffffffffff1fff ∷ 0 ∷ 0xffffffffffffffff ∷ 0xffffffffffffffff
     ∷ 0x3f0000ffff07ef ∷ 0 ∷ 0xffffffffffffffff ∷ 0xffffffffffffffff
     ∷ []
 

@@ -1,4 +1,4 @@
--- Document 01, The kept memory, and document 02, T-04: which rows are well formed.
+-- Document 01, The kept memory, and document 02, T-04 and T-05: which rows are well formed.
 -- Assumes nothing.
 use Prim.Native.Nat.{ℕ, _+_, _-_, _*_, _%_, _^_}
 use mathlib.Core.Bool.{Bool, true, not, _&&_, _||_}
@@ -24,7 +24,7 @@ namedParts =
     -- CD
     ∷ tag ∷ (Rows.streamBits ∷ []) ∷ [] ∷ []
     -- stage 1
-    ∷ (tag ++ Rows.vmidBits ∷ Rows.asidBits ∷ Rows.globalBits ∷ Rows.spanBits ∷ []) ∷ [] ∷ (Rows.wholeWord ∷ []) ∷ []
+    ∷ (tag ++ Rows.vmidBits ∷ Rows.asidBits ∷ Rows.globalBits ∷ Rows.spanBits ∷ Rows.markBits ∷ []) ∷ [] ∷ (Rows.wholeWord ∷ []) ∷ []
     -- stage 2
     ∷ (tag ++ Rows.vmidBits ∷ Rows.spanBits ∷ []) ∷ [] ∷ (Rows.wholeWord ∷ []) ∷ []
     -- STE, last-level
@@ -48,6 +48,7 @@ namedParts =
     ∷ Rows.asidBits
     ∷ Rows.globalBits
     ∷ Rows.spanBits
+    ∷ Rows.markBits
     ∷ Rows.memAttrBits
     ∷ Rows.shBits
     ∷ Rows.hintsBits
@@ -104,25 +105,35 @@ inHalf a = eqb (get halfBits a) 0 || eqb (get halfBits a) allOnes
 unfoldable pub begins : ℕ → ℕ → ℕ → Bool
 begins kind n a = pick (eqb kind Rows.stage1) (inHalf a && eqb (a % 2 ^ n) 0) (placed n a)
 
+-- Document 02, T-05: a marked row has VMID 0 and one mark, and only an EL2-E2H one has an ASID or is global
+unfoldable pub markGood : Row → Bool
+markGood row =
+    Rows.isUnmarked row
+    || (eqb (Rows.vmid row) 0
+    && (eqb (Rows.mark row) Rows.el2E2h
+    || (eqb (Rows.mark row) Rows.el2 && eqb (Rows.asid row) 0 && not (Rows.isGlobal row))))
+
 -- The rules that document 02 widens, so that it can be said that a row well formed by narrower ones still is.
 pub record RowRules : Type 0 where
   pub begin : ℕ → ℕ → ℕ → Bool
+  pub marks : Row → Bool
 
 -- as document 01 has them
 abbrev pub document01 : RowRules
-document01 = record { begin = λ kind n a. placed n a }
+document01 = record { begin = λ kind n a. placed n a; marks = λ row. Rows.isUnmarked row }
 
 -- as they are
 abbrev pub present : RowRules
-present = record { begin = begins }
+present = record { begin = begins; marks = markGood }
 
--- a stage row: its span, its input address, and in a last-level one the output address and the attributes
+-- a stage row: its span, its input address, in a last-level one the output address and the attributes, and its mark
 unfoldable pub stageGoodBy : RowRules → Row → Bool
 stageGoodBy rules row =
     leb 12 (Rows.span row)
     && leb (Rows.span row) 48
     && rules .begin (Rows.kind row) (Rows.span row) (row .w2)
     && (not (Rows.isLast row) || (placed (Rows.span row) (row .w3) && attributes.wellFormed (Rows.attributesOf row)))
+    && rules .marks row
 
 unfoldable pub goodBy : RowRules → Row → Bool
 goodBy rules row =

@@ -1,10 +1,11 @@
-// Document 01, The kept memory: which rows are well formed.
+// Document 01, The kept memory, with document 02, T-04 and T-05: which rows are well formed.
 use rows::Row;
 use rows::attributes_of;
 use rows::config_of;
 use rows::is_last;
 use rows::kind_of;
 use rows::kinds;
+use rows::marks;
 use rows::new_mem_attr_of;
 use rows::places;
 use rows::span_of;
@@ -14,7 +15,7 @@ ghost use mathlib.Core.List.{[]};
 ghost use Prim.Native.Nat.{_<_};
 ghost use lib.ListN.{getD};
 ghost use Rattle.words.specs.Ranges.{onlyIn};
-ghost use Rattle.row_forms.specs.WellFormed.{namedParts, shape, onlyNamed, knownConfig, steGood, placed, inHalf, begins, stageGood, good, wellFormed};
+ghost use Rattle.row_forms.specs.WellFormed.{namedParts, shape, onlyNamed, knownConfig, steGood, placed, inHalf, begins, markGood, stageGood, good, wellFormed};
 
 // The bits that may be set in a row's four words, by its kind, not last-level and last-level.
 const NAMED: [u64; 32] = [
@@ -29,7 +30,7 @@ const NAMED: [u64; 32] = [
     0,
     0,
     // stage 1
-    0x0000_ffff_ffff_07ff,
+    0x0000_ffff_ffff_1fff,
     0,
     0xffff_ffff_ffff_ffff,
     0,
@@ -49,7 +50,7 @@ const NAMED: [u64; 32] = [
     0,
     0,
     // stage 1, last-level
-    0x0fff_ffff_ffff_07ff,
+    0x0fff_ffff_ffff_1fff,
     0,
     0xffff_ffff_ffff_ffff,
     0xffff_ffff_ffff_ffff,
@@ -125,6 +126,16 @@ fn begins(kind: u64, n: u64, a: u64) -> bool
     placed(n, a)
 }
 
+// The hypervisor's own rows: one mark, VMID 0, and an ASID or global only for EL2-E2H.
+fn mark_good(row: Row) -> bool
+    ensures { λ r. ⌜ r ≡ markGood row ⌝ }
+{
+    let p = rows::parts_of(row);
+    (p.mark == marks::UNMARKED)
+        | ((p.vmid == 0)
+            & ((p.mark == marks::EL2_E2H) | ((p.mark == marks::EL2) & (p.asid == 0) & !p.global)))
+}
+
 fn stage_good(row: Row) -> bool
     ensures { λ r. ⌜ r ≡ stageGood row ⌝ }
 {
@@ -133,6 +144,7 @@ fn stage_good(row: Row) -> bool
         & (span <= 48)
         & begins(kind_of(row), span, row.w2)
         & (!is_last(row) | (placed(span, row.w3) & attributes::well_formed(attributes_of(row))))
+        & mark_good(row)
 }
 
 fn good(row: Row) -> bool

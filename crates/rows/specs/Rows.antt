@@ -1,4 +1,4 @@
--- Document 01, The kept memory: the four words of a row, and their parts.
+-- Document 01, The kept memory, with document 02, T-05: the four words of a row, and their parts.
 -- Assumes nothing.
 use Prim.Native.Nat.{ℕ, _+_, _^_}
 use mathlib.Core.Bool.{Bool, not, _&&_}
@@ -24,6 +24,10 @@ globalBits = bits 4 4
 
 abbrev pub spanBits : Range
 spanBits = bits 10 5
+
+-- document 02, T-05
+abbrev pub markBits : Range
+markBits = bits 12 11
 
 abbrev pub vmidBits : Range
 vmidBits = bits 31 16
@@ -87,6 +91,16 @@ stage1 = 2
 abbrev pub stage2 : ℕ
 stage2 = 3
 
+-- Document 02, T-05: the hypervisor's own stage 1 rows are marked, bit 11 for EL2 and bit 12 for EL2-E2H
+abbrev pub unmarked : ℕ
+unmarked = 0
+
+abbrev pub el2 : ℕ
+el2 = 1
+
+abbrev pub el2E2h : ℕ
+el2E2h = 2
+
 abbrev pub kind : Row → ℕ
 kind row = get kindBits (row .w0)
 
@@ -98,6 +112,16 @@ isGlobal row = eqb (get globalBits (row .w0)) 1
 
 abbrev pub span : Row → ℕ
 span row = get spanBits (row .w0)
+
+abbrev pub mark : Row → ℕ
+mark row = get markBits (row .w0)
+
+abbrev pub isUnmarked : Row → Bool
+isUnmarked row = eqb (mark row) unmarked
+
+-- a lookup is answered by last-level rows without a mark
+abbrev pub mayAnswer : Row → Bool
+mayAnswer row = isLast row && isUnmarked row
 
 abbrev pub vmid : Row → ℕ
 vmid row = get vmidBits (row .w0)
@@ -131,6 +155,7 @@ partsOf row =
       last = isLast row;
       global = isGlobal row;
       span = span row;
+      mark = mark row;
       vmid = vmid row;
       asid = asid row;
       stream = stream row;

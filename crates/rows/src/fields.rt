@@ -1,12 +1,13 @@
-// Document 01, The kept memory: a row's parts.
+// Document 01, The kept memory, with document 02, T-05: a row's parts.
 use crate::Parts;
 use crate::Row;
+use crate::marks;
 use crate::places;
 use attributes::Attributes;
 use attributes::Overrides;
 ghost use mathlib.Core.Path.{_≡_};
 ghost use Prim.Native.Nat.{_<_};
-ghost use Rattle.rows.specs.Rows.{kind, isLast, span, stream, config, newMemAttr, partsOf, overridesOf, attributesOf, covers};
+ghost use Rattle.rows.specs.Rows.{kind, isLast, span, mark, mayAnswer, stream, config, newMemAttr, partsOf, overridesOf, attributesOf, covers};
 
 // Six bits, so that a power of two of them is within the machine's reach.
 pub fn span_of(row: Row) -> u64
@@ -25,6 +26,19 @@ pub fn is_last(row: Row) -> bool
     ensures { λ r. ⌜ r ≡ isLast row ⌝ }
 {
     words::part(row.w0, places::LAST_HIGH, places::LAST_LOW) == 1
+}
+
+// Which of the hypervisor's own rows it is, or none.
+pub fn mark_of(row: Row) -> u64
+    ensures { λ r. ⌜ r ≡ mark row ⌝ }
+{
+    words::part(row.w0, places::MARK_HIGH, places::MARK_LOW)
+}
+
+pub fn may_answer(row: Row) -> bool
+    ensures { λ r. ⌜ r ≡ mayAnswer row ⌝ }
+{
+    is_last(row) & (mark_of(row) == marks::UNMARKED)
 }
 
 pub fn stream_of(row: Row) -> u64
@@ -54,6 +68,7 @@ pub fn parts_of(row: Row) -> Parts
         last: is_last(row),
         global: words::part(row.w0, places::GLOBAL_HIGH, places::GLOBAL_LOW) == 1,
         span: span_of(row),
+        mark: mark_of(row),
         vmid: words::part(row.w0, places::VMID_HIGH, places::VMID_LOW),
         asid: words::part(row.w0, places::ASID_HIGH, places::ASID_LOW),
         stream: stream_of(row),

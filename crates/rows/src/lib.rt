@@ -1,6 +1,7 @@
 // The rows of cached structures: four words, and their parts.
 mod fields;
 pub mod kinds;
+pub mod marks;
 pub mod places;
 
 pub use fields::attributes_of;
@@ -8,6 +9,8 @@ pub use fields::config_of;
 pub use fields::covers;
 pub use fields::is_last;
 pub use fields::kind_of;
+pub use fields::mark_of;
+pub use fields::may_answer;
 pub use fields::new_mem_attr_of;
 pub use fields::overrides_of;
 pub use fields::parts_of;
@@ -28,6 +31,7 @@ pub struct Parts {
     pub last: bool,
     pub global: bool,
     pub span: u64,
+    pub mark: u64,
     pub vmid: u64,
     pub asid: u64,
     pub stream: u64,

@@ -21,6 +21,11 @@ pub const SPAN_HIGH: u64 = 10;
 
 pub const SPAN_LOW: u64 = 5;
 
+// Document 02, T-05.
+pub const MARK_HIGH: u64 = 12;
+
+pub const MARK_LOW: u64 = 11;
+
 pub const VMID_HIGH: u64 = 31;
 
 pub const VMID_LOW: u64 = 16;

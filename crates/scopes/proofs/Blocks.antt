@@ -17,7 +17,7 @@ use Rattle.rows.specs.Rows as rows
 use Rattle.commands.specs.declared.Features.{Features}
 use Rattle.commands.specs.declared.Command.the-variants.{CfgiSteRange}
 use Rattle.scopes.specs.declared.Block.{Block}
-use Rattle.scopes.specs.Scopes.{meets, one, steBlock, ranged, steOf, cdOf, removes, tooWide, inScope}
+use Rattle.scopes.specs.Scopes.{meets, one, steBlock, ranged, steOf, cdOf, removes, tooWide, inScope, inRegime}
 use Rattle.scopes.proofs.Laws.{is-scoped}
 
 -- a stream lies in a block
@@ -74,13 +74,14 @@ all-meet a b fit-a fit-b e =
 -- 04 with Range 31 removes every STE and CD row that is used, whatever its StreamID and the row's
 pub range-31 : (f : Features) (s : ℕ) (row : Row) → s < 2 ^ 32 → rows.isEmpty row ≡ false
     → (rows.kind row ≡ rows.ste) ⊎ (rows.kind row ≡ rows.cd) → inScope f (CfgiSteRange s 31) row ≡ true
-unfolding tooWide removes steOf cdOf part
+unfolding tooWide inRegime removes steOf cdOf part
 range-31 f s row fit used kind =
     let every = ranged s 31 in
     is-scoped f (CfgiSteRange s 31) row
     (record {
       used = used;
       fits = refl;
+      ruled = refl;
       removed = ⊎-elim
           (λ ste. or-left (steOf row every) (cdOf row every)
           (and-true (eq-eqb (rows.kind row) rows.ste ste) (all-meet (steBlock row) every (part-lt rows.streamBits (row .w1)) fit refl)))

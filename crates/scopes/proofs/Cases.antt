@@ -8,8 +8,8 @@ use Rattle.rows.specs.Rows as rows
 use Rattle.commands.specs.declared.Features.{Features}
 use Rattle.commands.specs.declared.Target.{Target}
 use Rattle.commands.specs.declared.Command.{Command}
-use Rattle.commands.specs.declared.Command.the-variants.{PrefetchConfig, PrefetchAddr, CfgiSte, CfgiSteRange, CfgiCd, CfgiCdAll, TlbiNhAll, TlbiNhAsid, TlbiNhVa, TlbiNhVaa, TlbiS12Vmall, TlbiS2Ipa, TlbiNsnhAll, Sync}
-use Rattle.scopes.specs.Scopes.{spared, one, openBits, steOf, cdOf, cdAt, stageOf, stageAt, hasAsid, isStage, narrow, removes, tooWide, idle}
+use Rattle.commands.specs.declared.Command.the-variants.{PrefetchConfig, PrefetchAddr, CfgiSte, CfgiSteRange, CfgiCd, CfgiCdAll, TlbiNhAll, TlbiNhAsid, TlbiNhVa, TlbiNhVaa, TlbiEl2All, TlbiEl2Asid, TlbiEl2Va, TlbiEl2Vaa, TlbiS12Vmall, TlbiS2Ipa, TlbiNsnhAll, Sync}
+use Rattle.scopes.specs.Scopes.{spared, one, openBits, steOf, cdOf, cdAt, stageOf, stageAt, ownOf, ownAt, isE2h, hasAsid, isStage, narrow, removes, tooWide, idle}
 
 module _ (row : Row) where
   pub removes-03 : (s : ℕ) (l : Bool) (x y z : Bool) → x ≡ steOf row (one s) → y ≡ spared row l → z ≡ cdOf row (one s)
@@ -49,6 +49,24 @@ module _ (row : Row) where
   unfolding removes
   removes-13 v t x y p q = rw (p, q)
 
+  pub removes-20 : (x : Bool) → x ≡ ownOf row → x ≡ removes TlbiEl2All row
+  unfolding removes
+  removes-20 x p = rw p
+
+  pub removes-21 : (a : ℕ) (x w y z : Bool) → x ≡ ownOf row → w ≡ isE2h row → y ≡ hasAsid row a → z ≡ rows.isGlobal row
+      → (x && w && y && not z) ≡ removes (TlbiEl2Asid a) row
+  unfolding removes
+  removes-21 a x w y z p o q r = rw (p, o, q, r)
+
+  pub removes-22 : (a : ℕ) (t : Target) (x u y z w : Bool) → x ≡ ownAt row t → u ≡ isE2h row → y ≡ hasAsid row a
+      → z ≡ rows.isGlobal row → w ≡ spared row (t .leaf) → (x && (not u || y || z) && not w) ≡ removes (TlbiEl2Va a t) row
+  unfolding removes
+  removes-22 a t x u y z w p o q r s = rw (p, o, q, r, s)
+
+  pub removes-23 : (t : Target) (x y : Bool) → x ≡ ownAt row t → y ≡ spared row (t .leaf) → (x && not y) ≡ removes (TlbiEl2Vaa t) row
+  unfolding removes
+  removes-23 t x y p q = rw (p, q)
+
   pub removes-28 : (v : ℕ) (x y : Bool) → x ≡ stageOf row rows.stage1 v → y ≡ stageOf row rows.stage2 v
       → (x || y) ≡ removes (TlbiS12Vmall v) row
   unfolding removes
@@ -75,6 +93,14 @@ module _ (f : Features) (c : Command) where
   pub idle-13 : (v : ℕ) (t : Target) (x : Bool) → c ≡ TlbiNhVaa v t → x ≡ narrow (f .vmid16) v → not x ≡ idle f c
   unfolding idle tooWide
   idle-13 v t x e p = rw (e, p)
+
+  pub idle-21 : (a : ℕ) (x : Bool) → c ≡ TlbiEl2Asid a → x ≡ narrow (f .asid16) a → not x ≡ idle f c
+  unfolding idle tooWide
+  idle-21 a x e p = rw (e, p)
+
+  pub idle-22 : (a : ℕ) (t : Target) (x : Bool) → c ≡ TlbiEl2Va a t → x ≡ narrow (f .asid16) a → not x ≡ idle f c
+  unfolding idle tooWide
+  idle-22 a t x e p = rw (e, p)
 
   pub idle-28 : (v : ℕ) (x : Bool) → c ≡ TlbiS12Vmall v → x ≡ narrow (f .vmid16) v → not x ≡ idle f c
   unfolding idle tooWide

@@ -3,3 +3,4 @@ pub mod OtherKinds
 pub mod Cases
 pub mod Blocks
 pub mod Containments
+pub mod Sorts

@@ -1,4 +1,4 @@
--- Document 01, Commands and their scopes: which rows a legal command removes.
+-- Document 01, Commands and their scopes, with document 02, T-05: which rows a legal command removes.
 -- Assumes nothing.
 use Prim.Native.Nat.{ℕ, _+_, _*_, _/_, _^_, max}
 use mathlib.Core.Bool.{Bool, true, false, not, _&&_, _||_}
@@ -10,7 +10,7 @@ use Rattle.rows.specs.Rows as rows
 use Rattle.commands.specs.declared.Features.{Features}
 use Rattle.commands.specs.declared.Target.{Target}
 use Rattle.commands.specs.declared.Command.{Command}
-use Rattle.commands.specs.declared.Command.the-variants.{PrefetchConfig, PrefetchAddr, CfgiSte, CfgiSteRange, CfgiCd, CfgiCdAll, TlbiNhAll, TlbiNhAsid, TlbiNhVa, TlbiNhVaa, TlbiS12Vmall, TlbiS2Ipa, TlbiNsnhAll, Sync}
+use Rattle.commands.specs.declared.Command.the-variants.{PrefetchConfig, PrefetchAddr, CfgiSte, CfgiSteRange, CfgiCd, CfgiCdAll, TlbiNhAll, TlbiNhAsid, TlbiNhVa, TlbiNhVaa, TlbiEl2All, TlbiEl2Asid, TlbiEl2Va, TlbiEl2Vaa, TlbiS12Vmall, TlbiS2Ipa, TlbiNsnhAll, Sync}
 use Rattle.scopes.specs.declared.Block.{Block}
 
 -- Leaf 1 spares rows that are not last-level
@@ -52,9 +52,20 @@ cdAt row stream substream =
     && eqb (rows.stream row) stream
     && (not (rows.isLast row) || eqb (rows.substream row) substream)
 
--- rows of a stage and VMID
+-- rows of a stage, but for the hypervisor's own; and such of a VMID
+abbrev pub ofStage : Row → ℕ → Bool
+ofStage row kind = eqb (rows.kind row) kind && rows.isUnmarked row
+
 unfoldable pub stageOf : Row → ℕ → ℕ → Bool
-stageOf row kind vmid = eqb (rows.kind row) kind && eqb (rows.vmid row) vmid
+stageOf row kind vmid = ofStage row kind && eqb (rows.vmid row) vmid
+
+-- document 02, T-05: the hypervisor's own rows, of either sort
+unfoldable pub ownOf : Row → Bool
+ownOf row = eqb (rows.kind row) rows.stage1 && not (rows.isUnmarked row)
+
+-- its EL2-E2H rows
+abbrev pub isE2h : Row → Bool
+isE2h row = eqb (rows.mark row) rows.el2E2h
 
 -- the address that a command's page names: at most 52 bits, and 12 zeros below them
 abbrev pub addressOf : ℕ → ℕ
@@ -64,14 +75,17 @@ addressOf page = part 51 0 page * 2 ^ 12
 unfoldable pub stageAt : Row → ℕ → ℕ → Target → Bool
 stageAt row kind vmid target = stageOf row kind vmid && rows.covers row (addressOf (target .page))
 
+unfoldable pub ownAt : Row → Target → Bool
+ownAt row target = ownOf row && rows.covers row (addressOf (target .page))
+
 abbrev pub hasAsid : Row → ℕ → Bool
 hasAsid row asid = eqb (rows.asid row) asid
 
--- rows of either stage
+-- rows of either stage, but for the hypervisor's own
 abbrev pub isStage : Row → Bool
-isStage row = eqb (rows.kind row) rows.stage1 || eqb (rows.kind row) rows.stage2
+isStage row = ofStage row rows.stage1 || ofStage row rows.stage2
 
--- the table's last column
+-- the table's last column, and 20 to 23
 unfoldable pub removes : Command → Row → Bool
 removes PrefetchConfig row = false
 removes PrefetchAddr row = false
@@ -84,6 +98,11 @@ removes (TlbiNhAsid vmid asid) row = stageOf row rows.stage1 vmid && hasAsid row
 removes (TlbiNhVa vmid asid target) row =
     stageAt row rows.stage1 vmid target && (hasAsid row asid || rows.isGlobal row) && not (spared row (target .leaf))
 removes (TlbiNhVaa vmid target) row = stageAt row rows.stage1 vmid target && not (spared row (target .leaf))
+removes TlbiEl2All row = ownOf row
+removes (TlbiEl2Asid asid) row = ownOf row && isE2h row && hasAsid row asid && not (rows.isGlobal row)
+removes (TlbiEl2Va asid target) row =
+    ownAt row target && (not (isE2h row) || hasAsid row asid || rows.isGlobal row) && not (spared row (target .leaf))
+removes (TlbiEl2Vaa target) row = ownAt row target && not (spared row (target .leaf))
 removes (TlbiS12Vmall vmid) row = stageOf row rows.stage1 vmid || stageOf row rows.stage2 vmid
 removes (TlbiS2Ipa vmid target) row = stageAt row rows.stage2 vmid target && not (spared row (target .leaf))
 removes TlbiNsnhAll row = isStage row
@@ -105,14 +124,46 @@ tooWide f (TlbiNhAll vmid) = not (narrow (f .vmid16) vmid)
 tooWide f (TlbiNhAsid vmid asid) = not (narrow (f .vmid16) vmid && narrow (f .asid16) asid)
 tooWide f (TlbiNhVa vmid asid target) = not (narrow (f .vmid16) vmid && narrow (f .asid16) asid)
 tooWide f (TlbiNhVaa vmid target) = not (narrow (f .vmid16) vmid)
+tooWide f TlbiEl2All = false
+tooWide f (TlbiEl2Asid asid) = not (narrow (f .asid16) asid)
+tooWide f (TlbiEl2Va asid target) = not (narrow (f .asid16) asid)
+tooWide f (TlbiEl2Vaa target) = false
 tooWide f (TlbiS12Vmall vmid) = not (narrow (f .vmid16) vmid)
 tooWide f (TlbiS2Ipa vmid target) = not (narrow (f .vmid16) vmid)
 tooWide f TlbiNsnhAll = false
 tooWide f (Sync cs) = false
 
--- a row is in a command's scope: it is not empty, and the command removes it
+-- document 02, T-05: 22 and 23 are about one sort of the hypervisor's own rows, which the setting E2H names
+abbrev pub regime : Features → ℕ
+regime f = pick (f .e2h) rows.el2E2h rows.el2
+
+abbrev pub byRegime : Command → Bool
+byRegime PrefetchConfig = false
+byRegime PrefetchAddr = false
+byRegime (CfgiSte stream leaf) = false
+byRegime (CfgiSteRange stream range) = false
+byRegime (CfgiCd substream stream leaf) = false
+byRegime (CfgiCdAll stream) = false
+byRegime (TlbiNhAll vmid) = false
+byRegime (TlbiNhAsid vmid asid) = false
+byRegime (TlbiNhVa vmid asid target) = false
+byRegime (TlbiNhVaa vmid target) = false
+byRegime TlbiEl2All = false
+byRegime (TlbiEl2Asid asid) = false
+byRegime (TlbiEl2Va asid target) = true
+byRegime (TlbiEl2Vaa target) = true
+byRegime (TlbiS12Vmall vmid) = false
+byRegime (TlbiS2Ipa vmid target) = false
+byRegime TlbiNsnhAll = false
+byRegime (Sync cs) = false
+
+unfoldable pub inRegime : Features → Command → Row → Bool
+inRegime f command row = not (byRegime command) || eqb (rows.mark row) (regime f)
+
+-- a row is in a command's scope: it is not empty, no identifier of the command is too wide, the row is of the sort that E2H names
+-- where the command asks for one, and the command removes it
 unfoldable pub inScope : Features → Command → Row → Bool
-inScope f command row = not (rows.isEmpty row) && not (tooWide f command) && removes command row
+inScope f command row = not (rows.isEmpty row) && not (tooWide f command) && inRegime f command row && removes command row
 
 -- all but 01, 02 and 46 are invalidations
 abbrev pub invalidates : Command → Bool
@@ -126,6 +177,10 @@ invalidates (TlbiNhAll vmid) = true
 invalidates (TlbiNhAsid vmid asid) = true
 invalidates (TlbiNhVa vmid asid target) = true
 invalidates (TlbiNhVaa vmid target) = true
+invalidates TlbiEl2All = true
+invalidates (TlbiEl2Asid asid) = true
+invalidates (TlbiEl2Va asid target) = true
+invalidates (TlbiEl2Vaa target) = true
 invalidates (TlbiS12Vmall vmid) = true
 invalidates (TlbiS2Ipa vmid target) = true
 invalidates TlbiNsnhAll = true

@@ -1,15 +1,16 @@
-// Document 01, Commands and their scopes: which rows a legal command removes.
+// Document 01, Commands and their scopes, with document 02, T-05: which rows a legal command removes.
 use commands::Command;
 use commands::Features;
 use commands::Target;
 use rows::Row;
 use rows::kinds;
+use rows::marks;
 ghost use mathlib.Core.Path.{_≡_};
 ghost use Prim.Native.Nat.{_/_, _^_, _<_};
 ghost use lib.Dec.{eqb};
 ghost use Rattle.rows.specs.Rows.{isGlobal};
-ghost use Rattle.commands.specs.declared.Command.the-variants.{CfgiSte, CfgiSteRange, CfgiCd, CfgiCdAll, TlbiNhAll, TlbiNhAsid, TlbiNhVa, TlbiNhVaa, TlbiS12Vmall, TlbiS2Ipa, TlbiNsnhAll};
-ghost use Rattle.scopes.specs.Scopes.{spared, meets, steBlock, openBits, steOf, cdOf, cdAt, stageOf, addressOf, stageAt, hasAsid, narrow, removes, idle, inScope};
+ghost use Rattle.commands.specs.declared.Command.the-variants.{CfgiSte, CfgiSteRange, CfgiCd, CfgiCdAll, TlbiNhAll, TlbiNhAsid, TlbiNhVa, TlbiNhVaa, TlbiEl2All, TlbiEl2Asid, TlbiEl2Va, TlbiEl2Vaa, TlbiS12Vmall, TlbiS2Ipa, TlbiNsnhAll};
+ghost use Rattle.scopes.specs.Scopes.{spared, meets, steBlock, openBits, steOf, cdOf, cdAt, stageOf, ownOf, isE2h, addressOf, stageAt, ownAt, hasAsid, narrow, removes, idle, regime, byRegime, inRegime, inScope};
 ghost use Rattle.scopes.specs.Kinds.{isAbout};
 
 // The 2^span streams that are equal to one of them above their lowest span bits.
@@ -87,7 +88,27 @@ fn stage_of(row: Row, kind: u64, vmid: u64) -> bool
     ensures { λ r. ⌜ r ≡ stageOf row kind vmid ⌝ }
 {
     let p = rows::parts_of(row);
-    (p.kind == kind) & (p.vmid == vmid)
+    (p.kind == kind) & (p.mark == marks::UNMARKED) & (p.vmid == vmid)
+}
+
+// Document 02, T-05: the hypervisor's own rows.
+fn own_of(row: Row) -> bool
+    ensures { λ r. ⌜ r ≡ ownOf row ⌝ }
+{
+    let p = rows::parts_of(row);
+    (p.kind == kinds::STAGE1) & !(p.mark == marks::UNMARKED)
+}
+
+fn own_at(row: Row, target: Target) -> bool
+    ensures { λ r. ⌜ r ≡ ownAt row target ⌝ }
+{
+    own_of(row) & rows::covers(row, address_of(target.page))
+}
+
+fn is_e2h(row: Row) -> bool
+    ensures { λ r. ⌜ r ≡ isE2h row ⌝ }
+{
+    rows::parts_of(row).mark == marks::EL2_E2H
 }
 
 fn address_of(page: u64) -> u64
@@ -177,6 +198,33 @@ fn removes_13(row: Row, vmid: u64, target: Target) -> bool
     stage_at(row, kinds::STAGE1, vmid, target) & !spared(row, target.leaf)
 }
 
+fn removes_20(row: Row) -> bool
+    ensures { λ r. ⌜ r ≡ removes TlbiEl2All row ⌝ }
+{
+    own_of(row)
+}
+
+fn removes_21(row: Row, asid: u64) -> bool
+    ensures { λ r. ⌜ r ≡ removes (TlbiEl2Asid asid) row ⌝ }
+{
+    own_of(row) & is_e2h(row) & has_asid(row, asid) & !is_global(row)
+}
+
+// An EL2 row has no ASID to compare.
+fn removes_22(row: Row, asid: u64, target: Target) -> bool
+    ensures { λ r. ⌜ r ≡ removes (TlbiEl2Va asid target) row ⌝ }
+{
+    own_at(row, target)
+        & (!is_e2h(row) | has_asid(row, asid) | is_global(row))
+        & !spared(row, target.leaf)
+}
+
+fn removes_23(row: Row, target: Target) -> bool
+    ensures { λ r. ⌜ r ≡ removes (TlbiEl2Vaa target) row ⌝ }
+{
+    own_at(row, target) & !spared(row, target.leaf)
+}
+
 fn removes_28(row: Row, vmid: u64) -> bool
     ensures { λ r. ⌜ r ≡ removes (TlbiS12Vmall vmid) row ⌝ }
 {
@@ -193,7 +241,8 @@ fn removes_30(row: Row) -> bool
     ensures { λ r. ⌜ r ≡ removes TlbiNsnhAll row ⌝ }
 {
     let p = rows::parts_of(row);
-    (p.kind == kinds::STAGE1) | (p.kind == kinds::STAGE2)
+    let unmarked = p.mark == marks::UNMARKED;
+    ((p.kind == kinds::STAGE1) & unmarked) | ((p.kind == kinds::STAGE2) & unmarked)
 }
 
 // Whether a row is one of those that the table names for a command.
@@ -211,6 +260,10 @@ fn removes(c: Command, row: Row) -> bool
         Command::TlbiNhAsid(vmid, asid) => removes_11(row, vmid, asid),
         Command::TlbiNhVa(vmid, asid, target) => removes_12(row, vmid, asid, target),
         Command::TlbiNhVaa(vmid, target) => removes_13(row, vmid, target),
+        Command::TlbiEl2All => removes_20(row),
+        Command::TlbiEl2Asid(asid) => removes_21(row, asid),
+        Command::TlbiEl2Va(asid, target) => removes_22(row, asid, target),
+        Command::TlbiEl2Vaa(target) => removes_23(row, target),
         Command::TlbiS12Vmall(vmid) => removes_28(row, vmid),
         Command::TlbiS2Ipa(vmid, target) => removes_2a(row, vmid, target),
         Command::TlbiNsnhAll => removes_30(row),
@@ -239,6 +292,10 @@ pub fn idle(f: Features, c: Command) -> bool
         Command::TlbiNhAsid(vmid, asid) => !(narrow(f.vmid16, vmid) & narrow(f.asid16, asid)),
         Command::TlbiNhVa(vmid, asid, _) => !(narrow(f.vmid16, vmid) & narrow(f.asid16, asid)),
         Command::TlbiNhVaa(vmid, _) => !narrow(f.vmid16, vmid),
+        Command::TlbiEl2All => false,
+        Command::TlbiEl2Asid(asid) => !narrow(f.asid16, asid),
+        Command::TlbiEl2Va(asid, _) => !narrow(f.asid16, asid),
+        Command::TlbiEl2Vaa(_) => false,
         Command::TlbiS12Vmall(vmid) => !narrow(f.vmid16, vmid),
         Command::TlbiS2Ipa(vmid, _) => !narrow(f.vmid16, vmid),
         Command::TlbiNsnhAll => false,
@@ -261,11 +318,57 @@ fn is_about(c: Command, kind: u64) -> bool
         Command::TlbiNhAsid(_, _) => kind == kinds::STAGE1,
         Command::TlbiNhVa(_, _, _) => kind == kinds::STAGE1,
         Command::TlbiNhVaa(_, _) => kind == kinds::STAGE1,
+        Command::TlbiEl2All => kind == kinds::STAGE1,
+        Command::TlbiEl2Asid(_) => kind == kinds::STAGE1,
+        Command::TlbiEl2Va(_, _) => kind == kinds::STAGE1,
+        Command::TlbiEl2Vaa(_) => kind == kinds::STAGE1,
         Command::TlbiS12Vmall(_) => (kind == kinds::STAGE1) | (kind == kinds::STAGE2),
         Command::TlbiS2Ipa(_, _) => kind == kinds::STAGE2,
         Command::TlbiNsnhAll => (kind == kinds::STAGE1) | (kind == kinds::STAGE2),
         Command::Sync(_) => false,
     }
+}
+
+// The sort of the hypervisor's own rows that E2H names.
+fn regime(f: Features) -> u64
+    ensures { λ r. ⌜ r ≡ regime f ⌝ }
+{
+    if f.e2h {
+        return marks::EL2_E2H;
+    }
+    marks::EL2
+}
+
+// Whether a command is about rows of that sort alone: 22 and 23.
+fn by_regime(c: Command) -> bool
+    ensures { λ r. ⌜ r ≡ byRegime c ⌝ }
+{
+    match c {
+        Command::PrefetchConfig => false,
+        Command::PrefetchAddr => false,
+        Command::CfgiSte(_, _) => false,
+        Command::CfgiSteRange(_, _) => false,
+        Command::CfgiCd(_, _, _) => false,
+        Command::CfgiCdAll(_) => false,
+        Command::TlbiNhAll(_) => false,
+        Command::TlbiNhAsid(_, _) => false,
+        Command::TlbiNhVa(_, _, _) => false,
+        Command::TlbiNhVaa(_, _) => false,
+        Command::TlbiEl2All => false,
+        Command::TlbiEl2Asid(_) => false,
+        Command::TlbiEl2Va(_, _) => true,
+        Command::TlbiEl2Vaa(_) => true,
+        Command::TlbiS12Vmall(_) => false,
+        Command::TlbiS2Ipa(_, _) => false,
+        Command::TlbiNsnhAll => false,
+        Command::Sync(_) => false,
+    }
+}
+
+fn in_regime(f: Features, c: Command, row: Row) -> bool
+    ensures { λ r. ⌜ r ≡ inRegime f c row ⌝ }
+{
+    !by_regime(c) | (rows::mark_of(row) == regime(f))
 }
 
 // Whether a row is in a command's scope. Word 0 alone tells it of most rows.
@@ -278,5 +381,5 @@ pub fn in_scope(f: Features, c: Command, row: Row) -> bool
     if !is_about(c, rows::kind_of(row)) {
         return false;
     }
-    !idle(f, c) & removes(c, row)
+    !idle(f, c) & in_regime(f, c, row) & removes(c, row)
 }

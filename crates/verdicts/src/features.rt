@@ -7,4 +7,6 @@ pub const ASID16: u64 = 4;
 
 pub const VMID16: u64 = 8;
 
-pub const ALL: u64 = 15;
+pub const HYP: u64 = 16;
+
+pub const ALL: u64 = 31;

@@ -1,6 +1,7 @@
-// Document 01, Commands and their scopes: which codes are known, which bits of each are Reserved, which features it needs.
+// Document 01, Commands and their scopes, and document 02, T-05: which codes are known, which bits of each are Reserved, which features it needs.
 use crate::features::ALL;
 use crate::features::ASID16;
+use crate::features::HYP;
 use crate::features::S1P;
 use crate::features::S2P;
 use crate::features::VMID16;
@@ -128,6 +129,8 @@ fn one_code(c: u64) {
     verdict(features_of(ALL - ASID16), c);
     say(b", VMID16");
     verdict(features_of(ALL - VMID16), c);
+    say(b", Hyp");
+    verdict(features_of(ALL - HYP), c);
     say(b"\n  Reserved:");
     reserved(features_of(ALL), c);
     if is_legal(no_s2p, c, 0) {
@@ -147,6 +150,10 @@ fn code_by_code() {
     one_code(0x11);
     one_code(0x12);
     one_code(0x13);
+    one_code(0x20);
+    one_code(0x21);
+    one_code(0x22);
+    one_code(0x23);
     one_code(0x28);
     one_code(0x2A);
     one_code(0x30);

@@ -1,5 +1,6 @@
 // The commands that Linux guests sent, from data/: how many of each code are legal, and how many are not, by reason.
 use crate::features::ASID16;
+use crate::features::HYP;
 use crate::features::S1P;
 use crate::features::S2P;
 use crate::features::VMID16;
@@ -25,6 +26,7 @@ const COUNTS: usize = 1282;
 pub fn all() {
     let stage1 = commands::features_of(S1P + ASID16);
     let stage2 = commands::features_of(S2P + VMID16);
+    let host = commands::features_of(S1P + ASID16 + HYP);
     say(b"linux-6.12-no-ril\n");
     guest(b"linux-6.12-no-ril.bin", stage1);
     say(b"linux-6.12\n");
@@ -32,7 +34,7 @@ pub fn all() {
     say(b"linux-6.1-stage2\n");
     guest(b"linux-6.1-stage2.bin", stage2);
     say(b"linux-6.1-hyp\n");
-    guest(b"linux-6.1-hyp.bin", stage1);
+    guest(b"linux-6.1-hyp.bin", host);
 }
 
 // Legal commands are counted at their code, illegal ones by their reason, each 256 places on.

@@ -9,7 +9,7 @@ returns : tie.Need-returns
 unfolding collides
 returns c =
     let first = c .before .before .before in
-    rw (c .shares .ensures, c .before .kind-of2 .ensures, c .before .before .kind-of .ensures, first .is-last2 .ensures, first .before .is-last .ensures)
+    rw (c .shares .ensures, c .before .kind-of2 .ensures, c .before .before .kind-of .ensures, first .may-answer2 .ensures, first .before .may-answer .ensures)
 
 pub collides-spec : {M : Type 1} → statement M
 collides-spec =

@@ -7,7 +7,7 @@ use Rattle.lookups.proofs.answers.Tie as tie
 
 returns : tie.Need-returns
 unfolding answers
-returns c = rw (c .fits2 .ensures, c .before .is-last .ensures)
+returns c = rw (c .fits2 .ensures, c .before .may-answer .ensures)
 
 pub answers-spec : {M : Type 1} → statement M
 answers-spec = tie.close (tie.spec (λ c κs. search needs) (λ c κs. search needs) returns)

@@ -8,13 +8,15 @@ use Rattle.row_forms.proofs.stage_good.Tie as tie
 returns : tie.Need-returns
 unfolding stageGoodBy
 returns c =
-    let asked = c .before .before .before .before in
-    rw (c .well-formed .ensures, c .before .attributes-of .ensures, c .before .before .placed .ensures, c .before .before .before .is-last .ensures, asked .begins .ensures, asked .before .kind-of .ensures, asked .before .before .span-of .ensures .0)
+    let outputs = c .before in
+    let asked = outputs .before .before .before .before in
+    rw (c .mark-good .ensures, outputs .well-formed .ensures, outputs .before .attributes-of .ensures, outputs .before .before .placed .ensures, outputs .before .before .before .is-last .ensures, asked .begins .ensures, asked .before .kind-of .ensures, asked .before .before .span-of .ensures .0)
 
 pub stage-good-spec : {M : Type 1} → statement M
 stage-good-spec =
     tie.close
     (tie.spec
+    (λ c κs. search needs)
     (λ c κs. search needs)
     (λ c κs. search needs)
     (λ c κs. search needs)

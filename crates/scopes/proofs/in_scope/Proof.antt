@@ -22,9 +22,9 @@ returns-2 c =
 
 returns-3 : tie.Need-returns-3
 returns-3 c =
-    let s = c .before .before .before .before .before .before .before in
-    rw (c .removes .ensures, c .before .idle .ensures) (in-scope-if (s .args .f) (s .args .c) (s .args .row) (ne-eqb _ _ (c .before .before .before .before .before .if1 .left)))
+    let s = c .before .before .before .before .before .before .before .before in
+    rw (c .removes .ensures, c .before .in-regime .ensures, c .before .before .idle .ensures) (in-scope-if (s .args .f) (s .args .c) (s .args .row) (ne-eqb _ _ (c .before .before .before .before .before .before .if1 .left)))
 
 pub in-scope-spec : {M : Type 1} → statement M
 in-scope-spec =
-    tie.close (tie.spec returns (λ c κs. search needs) (λ c κs. search needs) returns-2 (λ c κs. search needs) (λ c κs. search needs) returns-3)
+    tie.close (tie.spec returns (λ c κs. search needs) (λ c κs. search needs) returns-2 (λ c κs. search needs) (λ c κs. search needs) (λ c κs. search needs) returns-3)

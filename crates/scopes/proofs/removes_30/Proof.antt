@@ -8,7 +8,7 @@ use Rattle.scopes.proofs.removes_30.Tie as tie
 
 returns : tie.Need-returns
 unfolding partsOf removes
-returns c = rw (c .before .before .parts-of .ensures)
+returns c = rw (c .before .before .before .parts-of .ensures)
 
 pub removes-30-spec : {M : Type 1} → statement M
 removes-30-spec = tie.close (tie.spec (λ c κs. search needs) returns)

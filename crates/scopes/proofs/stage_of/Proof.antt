@@ -8,7 +8,7 @@ use Rattle.scopes.proofs.stage_of.Tie as tie
 
 returns : tie.Need-returns
 unfolding partsOf stageOf
-returns c = rw (c .before .before .parts-of .ensures)
+returns c = rw (c .before .before .before .parts-of .ensures)
 
 pub stage-of-spec : {M : Type 1} → statement M
 stage-of-spec = tie.close (tie.spec (λ c κs. search needs) returns)

@@ -7,28 +7,36 @@ use Rattle.commands.proofs.decoding.feature_present.Tie as tie
 
 returns-5 : tie.Need-returns-5
 unfolding featurePresent
-returns-5 c = cc
+returns-5 c = rw (c .match .keys5)
 
 returns-12 : tie.Need-returns-12
 unfolding featurePresent
-returns-12 c = cc
+returns-12 c = rw (c .before .match .keys12)
+
+returns-16 : tie.Need-returns-16
+unfolding featurePresent
+returns-16 c = rw (c .match .keys16)
 
 pub feature-present-spec : {M : Type 1} → statement M
 unfolding featurePresent
 feature-present-spec =
     tie.close
     (tie.spec
-    (λ c. cc)
-    (λ c. cc)
-    (λ c. cc)
-    (λ c. cc)
+    (λ c. rw (c .match .keys1))
+    (λ c. rw (c .match .keys2))
+    (λ c. rw (c .match .keys3))
+    (λ c. rw (c .match .keys4))
     returns-5
-    (λ c. cc)
-    (λ c. cc)
-    (λ c. cc)
-    (λ c. cc)
-    (λ c. cc)
-    (λ c. cc)
+    (λ c. rw (c .match .keys6))
+    (λ c. rw (c .match .keys7))
+    (λ c. rw (c .match .keys8))
+    (λ c. rw (c .match .keys9))
+    (λ c. rw (c .match .keys10))
+    (λ c. rw (c .before .match .keys11))
     returns-12
-    (λ c. cc)
+    (λ c. rw (c .before .match .keys13))
+    (λ c. rw (c .before .match .keys14))
+    (λ c. rw (c .match .keys15))
+    returns-16
+    (λ c. rw (c .match .keys17))
     (λ c. last-present (c .before .args .f) (c .before .args .code) (c .match .rest)))

@@ -23,4 +23,8 @@ place-spec =
     (λ c. cc)
     (λ c. cc)
     (λ c. cc)
+    (λ c. cc)
+    (λ c. cc)
+    (λ c. cc)
+    (λ c. cc)
     (λ c. no-place Unit codes (c .before .args .code) (c .match .rest)))

@@ -1,0 +1,75 @@
+//! The unit on rows that are seen otherwise, and a run as runs of one command each.
+
+use crate::call::{Call, CUT};
+use crate::generate::random::Random;
+use crate::lent::Lent;
+use crate::model::control::Control;
+use crate::model::image::{place, rows};
+use crate::model::row::Row;
+use crate::unit;
+
+/// The call on rows that are seen otherwise; what is stored is stored in those that
+/// are there.
+pub fn seen(call: Call, memory: &mut Lent, answer: &mut Lent, see: impl Fn(Row) -> Row) -> u64 {
+    let mut before = memory.inner().to_vec();
+    for (number, row) in rows(memory.inner()).enumerate() {
+        if row.used() {
+            before[place(number)..][..4].copy_from_slice(&see(row).0);
+        }
+    }
+    let mut copy = Lent::new(&before, &mut Random::new(0));
+    let number = unit::perform(call, &mut copy, answer);
+    let stored = copy.inner().iter().zip(&before);
+    for (word, (new, old)) in memory.inner_mut().iter_mut().zip(stored) {
+        if new != old {
+            *word = *new;
+        }
+    }
+    number
+}
+
+/// The run over the only command that waits.
+pub trait Each: Fn(Call, u64, &mut Lent, &mut Lent) -> u64 {}
+impl<T: Fn(Call, u64, &mut Lent, &mut Lent) -> u64> Each for T {}
+
+const EMPTY: u64 = 2;
+
+/// A run of one command after the other, each of them by a run of its own that is
+/// told the slot.
+pub fn one_by_one(call: Call, memory: &mut Lent, answer: &mut Lent, each: impl Each) -> u64 {
+    let mut sums = [0; 4];
+    loop {
+        let (number, over) = step(with_left(call, sums[1]), memory, answer, &each);
+        (0..4).for_each(|count| sums[count] += answer.inner()[1 + count]);
+        if over && number == 0 {
+            answer.inner_mut()[1..5].copy_from_slice(&sums);
+        }
+        if over {
+            return number;
+        }
+    }
+}
+
+/// The run with so many stores made.
+fn with_left(call: Call, made: u64) -> Call {
+    let mut numbers = call.numbers();
+    numbers[1] -= made;
+    call.passing(&numbers)
+}
+
+/// One command, or where none is due the end of the run; whether it was the end.
+fn step(call: Call, memory: &mut Lent, answer: &mut Lent, each: &impl Each) -> (u64, bool) {
+    let mut copy = Lent::new(memory.inner(), &mut Random::new(0));
+    let none = call.passing(&[call.numbers()[0], 0]);
+    if unit::perform(none, &mut copy, answer) != 0 || answer.inner()[0] != CUT {
+        return (unit::perform(call, memory, answer), true);
+    }
+    let control = Control::fields(memory.inner()[0]);
+    let (wr, slot) = ((control.rd + 1) % control.ring(), control.slot());
+    memory.inner_mut()[0] = Control { wr, ..control }.pack();
+    let number = each(call, slot, memory, answer);
+    let wr = control.wr;
+    let control = Control::fields(memory.inner()[0]);
+    memory.inner_mut()[0] = Control { wr, ..control }.pack();
+    (number, answer.inner()[0] != EMPTY)
+}
