@@ -4,7 +4,7 @@ use mathlib.Core.Path.{_≡_, refl, sym, ap, _∙_}
 use mathlib.Core.Bool.{Bool, true, false, not, _&&_}
 use mathlib.Core.Logic.{⊎-elim}
 use borrow.Author.Tests.{not-true}
-use Rattle.words.proofs.Truth.{left, right, and-true, decided}
+use Rattle.words.proofs.Truth.{left, right, and-true, never, clash, decided}
 use Rattle.rows.specs.declared.Row.{Row}
 use Rattle.rows.specs.Rows as rows
 use Rattle.commands.specs.declared.Features.{Features}
@@ -49,6 +49,10 @@ between true false false r e = refl
 between false true true r e = e
 between false true false r e = refl
 
+with-true : (a : Bool) {b : Bool} → b ≡ true → (a && b) ≡ a
+with-true true e = e
+with-true false e = refl
+
 module _ (f : Features) (c : Command) (row : Row) where
   pub empty-spared : rows.isEmpty row ≡ true → inScope f c row ≡ false
   unfolding inScope
@@ -80,3 +84,10 @@ module _ (f : Features) (c : Command) (row : Row) where
   pub is-scoped : Scoped f c row → inScope f c row ≡ true
   unfolding inScope
   is-scoped s = and-true (and-true (and-true (ap not (s .used)) (ap not (s .fits))) (s .ruled)) (s .removed)
+
+  -- so what goes by the features need be asked only of a row that the command removes
+  pub not-removed : removes c row ≡ false → inScope f c row ≡ false
+  not-removed e = never (inScope f c row) (λ s. clash (scoped s .removed) e)
+
+  pub then-scoped : rows.isEmpty row ≡ false → removes c row ≡ true → (not (idle f c) && inRegime f c row) ≡ inScope f c row
+  then-scoped u e = sym (with-true (not (idle f c) && inRegime f c row) e) ∙ in-scope-if u

@@ -371,7 +371,7 @@ fn in_regime(f: Features, c: Command, row: Row) -> bool
     !by_regime(c) | (rows::mark_of(row) == regime(f))
 }
 
-// Whether a row is in a command's scope. Word 0 alone tells it of most rows.
+// Whether a row is in a command's scope. Word 0 alone tells it of most rows, and what goes by the features is asked of few.
 pub fn in_scope(f: Features, c: Command, row: Row) -> bool
     ensures { λ r. ⌜ r ≡ inScope f c row ⌝ }
 {
@@ -381,5 +381,8 @@ pub fn in_scope(f: Features, c: Command, row: Row) -> bool
     if !is_about(c, rows::kind_of(row)) {
         return false;
     }
-    !idle(f, c) & in_regime(f, c, row) & removes(c, row)
+    if !removes(c, row) {
+        return false;
+    }
+    !idle(f, c) & in_regime(f, c, row)
 }

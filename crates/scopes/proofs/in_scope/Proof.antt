@@ -1,10 +1,10 @@
 -- `scopes::in_scope` meets its contract: an empty row, one of another kind, and the rest.
 -- Assumes nothing.
 use mathlib.Core.Path.{sym, ap, _∙_}
-use borrow.Author.Tests.{eq-eqb, ne-eqb, not-true}
+use borrow.Author.Tests.{eq-eqb, ne-eqb, not-true, not-false}
 use Rattle.scopes.specs.Scopes.{inScope}
 use Rattle.scopes.specs.Kinds.{isAbout}
-use Rattle.scopes.proofs.Laws.{in-scope-if}
+use Rattle.scopes.proofs.Laws.{not-removed, then-scoped}
 use Rattle.scopes.proofs.OtherKinds.{kind-spares}
 use borrow.Author.Needs.{needs}
 use Rattle.scopes.proofs.in_scope.Statement.{statement}
@@ -22,9 +22,27 @@ returns-2 c =
 
 returns-3 : tie.Need-returns-3
 returns-3 c =
-    let s = c .before .before .before .before .before .before .before .before in
-    rw (c .removes .ensures, c .before .in-regime .ensures, c .before .before .idle .ensures) (in-scope-if (s .args .f) (s .args .c) (s .args .row) (ne-eqb _ _ (c .before .before .before .before .before .before .if1 .left)))
+    let s = c .before .before .before .before .before .before .before in
+    sym (not-removed (s .args .f) (s .args .c) (s .args .row) (sym (c .before .removes .ensures) ∙ not-true _ (c .if3 .taken)))
+
+returns-4 : tie.Need-returns-4
+returns-4 c =
+    let asked = c .before .before in
+    let s = asked .before .before .before .before .before .before .before in
+    rw (c .in-regime .ensures, c .before .idle .ensures)
+    (then-scoped (s .args .f) (s .args .c) (s .args .row) (ne-eqb _ _ (asked .before .before .before .before .before .if1 .left))
+    (sym (asked .before .removes .ensures) ∙ not-false _ (asked .if3 .left)))
 
 pub in-scope-spec : {M : Type 1} → statement M
 in-scope-spec =
-    tie.close (tie.spec returns (λ c κs. search needs) (λ c κs. search needs) returns-2 (λ c κs. search needs) (λ c κs. search needs) (λ c κs. search needs) returns-3)
+    tie.close
+    (tie.spec
+    returns
+    (λ c κs. search needs)
+    (λ c κs. search needs)
+    returns-2
+    (λ c κs. search needs)
+    returns-3
+    (λ c κs. search needs)
+    (λ c κs. search needs)
+    returns-4)
