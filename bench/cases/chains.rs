@@ -1,6 +1,6 @@
 //! A table of 32 streams, each with its STE, CD, stage 1 and stage 2 row.
 
-use super::{memory, Case, Per, Work, ALL_FEATURES, USUAL};
+use super::{memory, Case, Per, Work, GUEST_FEATURES, USUAL};
 use super::{STAGE1_PAYLOAD, STAGE2_PAYLOAD, STE_PAYLOAD};
 use crate::call::Asked;
 use crate::model::run::End;
@@ -55,7 +55,7 @@ pub fn check() -> Case {
         kept: memory(USUAL, 0, &rows()),
         work: Work::Runs {
             queues: vec![vec![0; 16 * USUAL.commands()]],
-            features: ALL_FEATURES,
+            features: GUEST_FEATURES,
         },
         per: Per::Call,
         end: End::Off as u64,

@@ -44,8 +44,8 @@ impl Size {
     }
 }
 
-/// S1P, S2P, ASID16, VMID16.
-pub const ALL_FEATURES: u64 = 15;
+/// S1P, S2P, ASID16, VMID16: all but Hyp.
+pub const GUEST_FEATURES: u64 = 15;
 /// CMDQEN.
 pub const ENABLED: u64 = 1 << 49;
 
@@ -102,7 +102,7 @@ impl Case {
             kept: memory(size, ENABLED, rows),
             work: Work::Runs {
                 queues: vec![bytes(size, commands)],
-                features: ALL_FEATURES,
+                features: GUEST_FEATURES,
             },
             per: Per::Command,
             end: End::Empty as u64,
