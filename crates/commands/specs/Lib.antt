@@ -1,3 +1,4 @@
 pub mod FeatureBits
 pub mod Formats
+pub mod Masks
 pub mod Decoding
