@@ -72,6 +72,12 @@ module _ (t : Target) where
       at (suc (suc (suc zero))) h = d
       at (suc (suc (suc (suc n)))) h = absurd (omega arith)
 
+  -- rounding down passes no multiple of the largest granule
+  pub first-from : (m : ℕ) → m * 2 ^ 16 ≤ addressOf (t .page) → m * 2 ^ 16 ≤ firstOf t
+  unfolding firstOf
+  first-from m h =
+      by-tg (λ n. m * 2 ^ 16 ≤ addressOf (t .page) / 2 ^ n * 2 ^ n) (omega arith) (omega arith) (omega arith) (omega arith)
+
   pub granule-bound : granuleOf t ≤ 16
   granule-bound = by-tg (λ n. n ≤ 16) (omega arith) (omega arith) (omega arith) (omega arith)
 
