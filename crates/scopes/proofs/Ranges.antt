@@ -4,7 +4,7 @@
 use mathlib.Core.Path.{_≡_, refl, sym, ap, _∙_}
 use mathlib.Core.Bool.{Bool, true, false, not, _&&_, _||_}
 use mathlib.Core.Logic.{⊎-elim}
-use Prim.Native.Nat.{ℕ, zero, suc, _+_, _-_, _*_, _/_, _^_, _≤_, _<_, max, min}
+use Prim.Native.Nat.{ℕ, zero, suc, _+_, _-_, _*_, _/_, _%_, _^_, _≤_, _<_, max, min}
 use native.Mathlib.Nat.{le-trans, mul-le-mul-left, mul-le-mul-right, mul-pos, div-add-mod', div-one, mul-one}
 use native.Mathlib.Omega.{arith}
 use lib.Dec.{eqb, ltb}
@@ -78,6 +78,21 @@ module _ (t : Target) where
   first-from m h =
       by-tg (λ n. m * 2 ^ 16 ≤ addressOf (t .page) / 2 ^ n * 2 ^ n) (omega arith) (omega arith) (omega arith) (omega arith)
 
+  -- and with a granule it gives a whole page
+  pub first-whole : (tgOf t ≡ 0 → ⊥) → firstOf t % 2 ^ 12 ≡ 0
+  unfolding firstOf
+  first-whole some = at (tgOf t) some (part-lt (bits 1 0) (t .tg))
+    where
+      a : ℕ
+      a = addressOf (t .page)
+
+      at : (n : ℕ) → (n ≡ 0 → ⊥) → n < 4 → a / 2 ^ getD granules n 0 * 2 ^ getD granules n 0 % 2 ^ 12 ≡ 0
+      at zero z h = absurd (z refl)
+      at (suc zero) z h = omega arith
+      at (suc (suc zero)) z h = omega arith
+      at (suc (suc (suc zero))) z h = omega arith
+      at (suc (suc (suc (suc n)))) z h = absurd (omega arith)
+
   pub granule-bound : granuleOf t ≤ 16
   granule-bound = by-tg (λ n. n ≤ 16) (omega arith) (omega arith) (omega arith) (omega arith)
 
@@ -91,6 +106,10 @@ module _ (t : Target) where
       by-test : (b : Bool) → 0 < pick b 1 ((numOf t + 1) * 2 ^ scaleOf t * 2 ^ granuleOf t)
       by-test true = omega arith
       by-test false = mul-pos (mul-pos (omega arith) (pow-pos (scaleOf t))) (pow-pos (granuleOf t))
+
+  pub end-fits : endOf t ≤ 2 ^ 64
+  unfolding endOf
+  end-fits = omega arith
 
   end-behind : firstOf t < endOf t
   unfolding endOf
