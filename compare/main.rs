@@ -82,8 +82,10 @@ fn compare(seed: u64, wrong: Option<Wrong>) -> ExitCode {
     phases::upper::cases::cases(&mut checker);
     phases::doubles::cases::cases(&mut checker);
     phases::hyp::cases::cases(&mut checker);
+    phases::ranges::cases::cases(&mut checker);
     phases::events::cases::cases(&mut checker);
     phases::hyp::hyp(&mut checker);
+    phases::ranges::ranges(&mut checker);
     phases::events::events(&mut checker);
     phases::limits::limits(&mut checker);
     phases::reasons::reasons(&mut checker);
