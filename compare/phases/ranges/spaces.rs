@@ -106,9 +106,9 @@ fn commands() -> Vec<(Command, [u64; 2])> {
 /// Each upper bit of the ASID and of the VMID, with their features and without.
 fn wide(checker: &mut Checker) {
     let (num, scale) = RANGE;
-    let range = Range::new(1, num, scale);
     for bit in 8..16 {
         for (code, features) in ASKED {
+            let range = Range::new(1 + bit % 3, num, scale);
             let (low, high) = range.over(from(code, START));
             let (vmid, asid) = (1 << (32 + bit), 1 << (48 + bit));
             let others = match code {
