@@ -44,8 +44,10 @@ impl Size {
     }
 }
 
-/// S1P, S2P, ASID16, VMID16: all but Hyp.
+/// S1P, S2P, ASID16, VMID16: all but Hyp and RIL.
 pub const GUEST_FEATURES: u64 = 15;
+/// For commands with a range.
+pub const RIL: u64 = 1 << 5;
 /// CMDQEN.
 pub const ENABLED: u64 = 1 << 49;
 
@@ -149,6 +151,7 @@ pub fn all() -> Vec<Case> {
         ),
         pages::by_address("h", "as b at the limits", LARGEST),
         pages::fill(),
+        pages::by_range("j", "as b, each command with a range of 16 pages", USUAL),
     ]
 }
 
