@@ -85,13 +85,13 @@ fn compare(seed: u64, wrong: Option<Wrong>) -> ExitCode {
     phases::ranges::cases::cases(&mut checker);
     phases::events::cases::cases(&mut checker);
     phases::hyp::hyp(&mut checker);
-    phases::ranges::ranges(&mut checker);
     phases::events::events(&mut checker);
     phases::limits::limits(&mut checker);
     phases::reasons::reasons(&mut checker);
     phases::pending::pending(&mut checker);
     phases::upper::upper(&mut checker);
     phases::doubles::doubles(&mut checker);
+    phases::ranges::ranges(&mut checker);
     phases::commands::sweeps(&mut checker);
     phases::formats::sweeps(&mut checker);
     phases::controls::sweeps(&mut checker);
