@@ -141,7 +141,7 @@ pub fn all() -> Vec<Case> {
         mixed::case("a", "mixed commands, every second removes a row", USUAL),
         pages::by_address("b", "commands by address, none removes a row", USUAL),
         pages::without_scope(),
-        linux::case(),
+        linux::case("d", "a Linux guest's commands", linux::WITHOUT_RANGES),
         chains::check(),
         chains::transaction(),
         mixed::case(
@@ -152,6 +152,11 @@ pub fn all() -> Vec<Case> {
         pages::by_address("h", "as b at the limits", LARGEST),
         pages::fill(),
         pages::by_range("j", "as b, each command with a range of 16 pages", USUAL),
+        linux::case(
+            "k",
+            "a Linux guest's commands, with ranges",
+            linux::WITH_RANGES,
+        ),
     ]
 }
 
