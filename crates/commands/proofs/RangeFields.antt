@@ -7,20 +7,16 @@ use Prim.Native.Nat.{ℕ, _+_, _-_, _≤_, _<_}
 use native.Mathlib.Omega.{arith}
 use lib.Dec.{eqb}
 use Rattle.words.specs.Choice.{pick}
-use Rattle.words.specs.Parts.{joined}
-use Rattle.words.specs.Ranges.{get, named, all}
+use Rattle.words.specs.Parts.{part, isSet, joined}
+use Rattle.words.specs.Ranges.{get, named, all, setOnly}
 use Rattle.words.proofs.Truth.{passed, then-true, left, right, clash}
 use Rattle.words.proofs.Table.{all-at}
 use Rattle.commands.specs.declared.Features.{Features}
 use Rattle.commands.specs.declared.Shape.{Shape}
-use Rattle.commands.specs.Formats.{numBits, scaleBits, ttl128Bits, ttlBits, tgBits, shapeOf, namedAt, howMany}
+use Rattle.commands.specs.Formats.{tgBits, shapeOf, namedAt, howMany}
 use Rattle.commands.specs.Masks.{rangedAt}
-use Rattle.commands.specs.Decoding.{placeIn, featurePresent, clean, decode}
-
--- the table: the fields of a range with RIL and TG not 0, TTL128 with TTL not 0 besides
-abbrev pub mayBeSet : Features → Shape → ℕ → Bool
-mayBeSet f s i =
-    f .ril && s .ranged && (named (numBits ∷ scaleBits ∷ ttlBits ∷ tgBits ∷ []) i || (named (ttl128Bits ∷ []) i && s .hinted))
+use Rattle.commands.specs.RangeFields.{mayBeSet, withoutRil, ranged, tableSays, verdictOf}
+use Rattle.commands.specs.Decoding.{placeIn, knownCode, featurePresent, clean, parameterGood, commandOf, decode}
 
 same : Bool → Bool → Bool
 same a b = pick a b (not b)
@@ -78,10 +74,6 @@ module _ (f : Features) (s : Shape) (k : ℕ) (h : k < howMany) (r : rangedAt k 
       rw e at (is-same (named (namedAt f s k) (65 + (i - 65))) (mayBeSet f s (65 + (i - 65)))
       (all-at 11 (high f s k) (right (all 24 (low f s k)) (all 11 (high f s k)) both) (i - 65) (omega arith)))
 
--- the unit without RIL
-abbrev pub withoutRil : Features → Features
-withoutRil f = record { s1p = f .s1p; s2p = f .s2p; asid16 = f .asid16; vmid16 = f .vmid16; hyp = f .hyp; e2h = f .e2h; ril = false }
-
 -- a command with TG 0 is what it is without RIL
 module _ (f : Features) where
   same-names : (s : Shape) (k : ℕ) → s .ranged ≡ false → namedAt f s k ≡ namedAt (withoutRil f) s k
@@ -102,3 +94,15 @@ module _ (f : Features) where
       let c = joined lo hi in
       let none : shapeOf c .ranged ≡ false = rw e in
       rw (same-names (shapeOf c) (placeIn c) none)
+
+-- the whole table, by computing what decoding says of every TG, TTL and TTL128 and of NUM and SCALE 0 and not 0
+pub says : Bool → ℕ → ℕ → ℕ → ℕ → ℕ → Bool
+says ril tg ttl ttl128 num scale = eqb (verdictOf ril (ranged tg ttl ttl128 num scale)) (tableSays ril tg ttl ttl128 num scale)
+
+pub agrees : Bool → Bool
+agrees ril = all 4 (λ tg. all 4 (λ ttl. all 2 (λ ttl128. all 2 (λ num. all 2 (λ scale. says ril tg ttl ttl128 num scale)))))
+
+pub by-verdict : (ril : Bool) → agrees ril ≡ true
+unfolding agrees says part isSet joined setOnly knownCode featurePresent clean parameterGood commandOf decode
+by-verdict true = passed tt
+by-verdict false = passed tt

@@ -2,3 +2,4 @@ pub mod FeatureBits
 pub mod Formats
 pub mod Masks
 pub mod Decoding
+pub mod RangeFields

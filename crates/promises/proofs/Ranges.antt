@@ -25,7 +25,7 @@ use Rattle.scopes.specs.Ranges.{addressOf, tgOf, firstOf, endOf, reaches}
 use Rattle.scopes.specs.Scopes.{spared, stageOf, stageAt, ownOf, ownAt, isE2h, hasAsid, removes, tooWide, inRegime, inScope}
 use Rattle.scopes.proofs.Laws.{Scoped, scoped, is-scoped}
 use Rattle.scopes.proofs.Ranges as ranges
-use Rattle.promises.specs.Ranges.{Aim, nhVa, nhVaa, el2Va, el2Vaa, s2Ipa, commandAt, pages, single, PageOf}
+use Rattle.promises.specs.Ranges.{Aim, nhVa, nhVaa, el2Va, el2Vaa, s2Ipa, aimedAt, pages, single, PageOf}
 
 -- what a command by address asks of a row besides the address
 abbrev asked : Aim → Bool → Row → Bool
@@ -48,7 +48,7 @@ swap-three false true b c = refl
 swap-three false false b c = refl
 
 -- so each of the five removes what it reaches and what it asks for: the rule of the range stands once
-pub aims : (a : Aim) (t : Target) (row : Row) → removes (commandAt a t) row ≡ (reaches t row && asked a (t .leaf) row)
+pub aims : (a : Aim) (t : Target) (row : Row) → removes (aimedAt a t) row ≡ (reaches t row && asked a (t .leaf) row)
 unfolding removes stageAt ownAt
 aims (nhVa v s) t row = swap-three (stageOf row rows.stage1 v) (reaches t row) (hasAsid row s || rows.isGlobal row) (not (spared row (t .leaf)))
 aims (nhVaa v) t row = swap-two (stageOf row rows.stage1 v) (reaches t row) (not (spared row (t .leaf)))
@@ -57,7 +57,7 @@ aims el2Vaa t row = swap-two (ownOf row) (reaches t row) (not (spared row (t .le
 aims (s2Ipa v) t row = swap-two (stageOf row rows.stage2 v) (reaches t row) (not (spared row (t .leaf)))
 
 -- what goes by the features does not look at the target
-same-width : (f : Features) (a : Aim) (t t′ : Target) → tooWide f (commandAt a t) ≡ tooWide f (commandAt a t′)
+same-width : (f : Features) (a : Aim) (t t′ : Target) → tooWide f (aimedAt a t) ≡ tooWide f (aimedAt a t′)
 unfolding tooWide
 same-width f (nhVa v s) t t′ = refl
 same-width f (nhVaa v) t t′ = refl
@@ -65,7 +65,7 @@ same-width f (el2Va s) t t′ = refl
 same-width f el2Vaa t t′ = refl
 same-width f (s2Ipa v) t t′ = refl
 
-same-regime : (f : Features) (a : Aim) (t t′ : Target) (row : Row) → inRegime f (commandAt a t) row ≡ inRegime f (commandAt a t′) row
+same-regime : (f : Features) (a : Aim) (t t′ : Target) (row : Row) → inRegime f (aimedAt a t) row ≡ inRegime f (aimedAt a t′) row
 unfolding inRegime
 same-regime f (nhVa v s) t t′ row = refl
 same-regime f (nhVaa v) t t′ row = refl
@@ -75,11 +75,11 @@ same-regime f (s2Ipa v) t t′ row = refl
 
 -- two commands that differ in what they aim at, where both reach the row
 same-scope : (f : Features) (a : Aim) (t t′ : Target) (row : Row) → t .leaf ≡ t′ .leaf → reaches t′ row ≡ true
-    → inScope f (commandAt a t) row ≡ true → inScope f (commandAt a t′) row ≡ true
+    → inScope f (aimedAt a t) row ≡ true → inScope f (aimedAt a t′) row ≡ true
 same-scope f a t t′ row l r e =
-    let s = scoped f (commandAt a t) row e in
+    let s = scoped f (aimedAt a t) row e in
     let more = right (reaches t row) (asked a (t .leaf) row) (sym (aims a t row) ∙ s .removed) in
-    is-scoped f (commandAt a t′) row
+    is-scoped f (aimedAt a t′) row
     (record {
       used = s .used;
       fits = sym (same-width f a t t′) ∙ s .fits;
@@ -87,8 +87,8 @@ same-scope f a t t′ row l r e =
       removed = aims a t′ row ∙ and-true r (ap (λ (b : Bool). asked a b row) (sym l) ∙ more);
     })
 
-reached : (f : Features) (a : Aim) (t : Target) (row : Row) → inScope f (commandAt a t) row ≡ true → reaches t row ≡ true
-reached f a t row e = left (reaches t row) (asked a (t .leaf) row) (sym (aims a t row) ∙ scoped f (commandAt a t) row e .removed)
+reached : (f : Features) (a : Aim) (t : Target) (row : Row) → inScope f (aimedAt a t) row ≡ true → reaches t row ≡ true
+reached f a t row e = left (reaches t row) (asked a (t .leaf) row) (sym (aims a t row) ∙ scoped f (aimedAt a t) row e .removed)
 
 -- the address of a page
 page-address : (page : ℕ) → page < 2 ^ 52 → addressOf page ≡ page * 2 ^ 12
@@ -97,7 +97,7 @@ page-address page h = rw (div-one page, mod-eq-of-lt h)
 
 -- TG 0: the command removes the rows that cover its address, of those that it asks for
 pub single-as-before : (a : Aim) (t : Target) (row : Row) → tgOf t ≡ 0
-    → removes (commandAt a t) row ≡ (rows.covers row (addressOf (t .page)) && asked a (t .leaf) row)
+    → removes (aimedAt a t) row ≡ (rows.covers row (addressOf (t .page)) && asked a (t .leaf) row)
 single-as-before a t row z = aims a t row ∙ ap (λ (b : Bool). b && asked a (t .leaf) row) (ranges.single t z row)
 
 -- the kind of the rows that each takes
@@ -211,7 +211,7 @@ module _ (f : Features) (a : Aim) (t : Target) (row : Row) where
       ranges.single (for page) (no-range (t .leaf) page) row ∙ ap (λ (x : ℕ). rows.covers row x) (page-address page (nameable a page h))
 
   -- what any one of those commands removes, the one with the range removes
-  pub union-ranged : (page : ℕ) → PageOf a t page → inScope f (commandAt a (for page)) row ≡ true → inScope f (commandAt a t) row ≡ true
+  pub union-ranged : (page : ℕ) → PageOf a t page → inScope f (aimedAt a (for page)) row ≡ true → inScope f (aimedAt a t) row ≡ true
   union-ranged page p e =
       let c = sym (at-page page (p .named)) ∙ reached f a (for page) row e in
       same-scope f a (for page) t row refl
@@ -222,11 +222,11 @@ module _ (f : Features) (a : Aim) (t : Target) (row : Row) where
   pub record Union : Type 0 where
     pub page : ℕ
     pub is-page : PageOf a t page
-    pub removed : inScope f (commandAt a (for page)) row ≡ true
+    pub removed : inScope f (aimedAt a (for page)) row ≡ true
 
-  pub ranged-union : wellFormed row ≡ true → (tgOf t ≡ 0 → ⊥) → inScope f (commandAt a t) row ≡ true → Union
+  pub ranged-union : wellFormed row ≡ true → (tgOf t ≡ 0 → ⊥) → inScope f (aimedAt a t) row ≡ true → Union
   ranged-union formed some e =
-      let s = scoped f (commandAt a t) row e in
+      let s = scoped f (aimedAt a t) row e in
       let r = reached f a t row e in
       let k = of-kind a (t .leaf) row (right (reaches t row) (asked a (t .leaf) row) (sym (aims a t row) ∙ s .removed)) in
       let g = stage-kind a row formed (s .used) k in

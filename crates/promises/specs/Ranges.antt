@@ -15,12 +15,12 @@ pub data Aim : Type 0 where
   el2Vaa : Aim
   s2Ipa : ℕ → Aim
 
-abbrev pub commandAt : Aim → Target → Command
-commandAt (nhVa vmid asid) target = TlbiNhVa vmid asid target
-commandAt (nhVaa vmid) target = TlbiNhVaa vmid target
-commandAt (el2Va asid) target = TlbiEl2Va asid target
-commandAt el2Vaa target = TlbiEl2Vaa target
-commandAt (s2Ipa vmid) target = TlbiS2Ipa vmid target
+abbrev pub aimedAt : Aim → Target → Command
+aimedAt (nhVa vmid asid) target = TlbiNhVa vmid asid target
+aimedAt (nhVaa vmid) target = TlbiNhVaa vmid target
+aimedAt (el2Va asid) target = TlbiEl2Va asid target
+aimedAt el2Vaa target = TlbiEl2Vaa target
+aimedAt (s2Ipa vmid) target = TlbiS2Ipa vmid target
 
 -- how many pages of 4 KiB a command can name: 2A those below 2 ^ 52
 abbrev pub pages : Aim → ℕ
