@@ -130,6 +130,18 @@ def print_limits(folder, by_letter):
     )
 
 
+def print_ranges(folder, by_letter):
+    """What a range costs beside the single address: case j over case b, on each side."""
+    times = {letter: Times(folder, letter, *MODELS).unit.middle for letter in "bj"}
+    counts = [[Counts(folder, "once", letter, side, by_letter[letter]["rows"]).all for letter in "bj"] for side in SIDES]
+    unit, model, whole = [f"{ranged / single:.2f}" for single, ranged in counts]
+    print(
+        f"\n**A range beside the single address**: over the same rows a command takes the unit {number(times['j'])} ns in j and "
+        f"{number(times['b'])} in b, {times['j'] / times['b']:.2f} times as long, by {unit} times the instructions; the model "
+        f"takes {model} times those that it takes in b, and {whole} in one codegen unit."
+    )
+
+
 def main(folder):
     all_cases = cases(folder)
     by_letter = {case["case"]: case for case in all_cases}
@@ -143,6 +155,7 @@ def main(folder):
     print_scan(folder, by_letter)
     print_check(folder, by_letter)
     print_limits(folder, by_letter)
+    print_ranges(folder, by_letter)
 
 
 if __name__ == "__main__":

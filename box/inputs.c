@@ -126,7 +126,37 @@ void put_command(uint8_t slot[16], uint64_t low, uint64_t high) {
     }
 }
 
-void any_command(struct dice *dice, uint8_t slot[16]) {
+static uint64_t word_at(const uint8_t *bytes) {
+    uint64_t word = 0;
+    for (int i = 8; i-- > 0;) word = word << 8 | bytes[i];
+    return word;
+}
+
+static int by_address(uint64_t code) {
+    return code == 0x12 || code == 0x13 || code == 0x22 || code == 0x23 || code == 0x2A;
+}
+
+uint64_t range_of(const uint8_t slot[16], uint64_t *first) {
+    uint64_t low = word_at(slot), high = word_at(slot + 8), granule = high >> 10 & 3;
+    if (!by_address(low & 0xFF) || granule == 0) return 0;
+    granule = UINT64_C(1) << 2 * (granule - 1);
+    *first = (high >> 12) & ~(granule - 1);
+    return ((low >> 12 & 31) + 1) * granule << (low >> 20 & 31);
+}
+
+/* A command by address gets a range: mostly a short one, and one granule with a level. The dice are its own, so that what is rolled
+ * after it stays as it was. */
+static void add_range(uint64_t *low, uint64_t *high) {
+    struct dice own = {*low ^ *high};
+    static const uint64_t nums[] = {0, 0, 1, 3, 15, 31}, scales[] = {0, 0, 1, 4, 9, 18, 31};
+    if (!by_address(*low & 0xFF) || below(&own, 2)) return;
+    uint64_t num = PICK(&own, nums), scale = PICK(&own, scales), granule = 1 + below(&own, 3), level = below(&own, 4);
+    if (num == 0 && scale == 0 && level < 2) level = 3;
+    *low |= num << 12 | scale << 20;
+    *high |= granule << 10 | level << 8 | (level ? below(&own, 2) << 7 : 0);
+}
+
+void any_command(struct dice *dice, uint64_t features, uint8_t slot[16]) {
     /* those that take few rows stand more often than the sweeping ones */
     static const uint64_t codes[] = {0x01, 0x02, 0x03, 0x03, 0x04, 0x05, 0x05, 0x06, 0x10, 0x11, 0x11, 0x11, 0x12, 0x12, 0x12, 0x13,
                                      0x13, 0x20, 0x21, 0x21, 0x22, 0x22, 0x23, 0x23, 0x28, 0x2A, 0x2A, 0x2A, 0x30, 0x46, 0x46};
@@ -149,15 +179,17 @@ void any_command(struct dice *dice, uint8_t slot[16]) {
     case 0x2A: low = vmid; high = (page & ~UPPER_HALF) | leaf; break;
     case 0x46: low = below(dice, 3) << 12; high = roll(dice); break;
     }
-    put_command(slot, low | code, high);
+    low |= code;
+    if (features & RIL_FEATURE) add_range(&low, &high);
+    put_command(slot, low, high);
 }
 
 static void flip_bit(struct dice *dice, uint8_t *byte) {
     *byte ^= (uint8_t)(1u << below(dice, 8));
 }
 
-void spoilt_command(struct dice *dice, uint8_t slot[16]) {
-    any_command(dice, slot);
+void spoilt_command(struct dice *dice, uint64_t features, uint8_t slot[16]) {
+    any_command(dice, features, slot);
     if (below(dice, 2)) slot[0] = (uint8_t)roll(dice);
     else flip_bit(dice, slot + below(dice, 16));
 }
@@ -183,8 +215,8 @@ static uint64_t any_control(struct dice *dice, uint64_t log2size) {
 static void fill_queue(struct dice *dice, struct input *input, uint64_t slots, uint64_t rarity) {
     input->bytes = 16 * slots;
     for (uint64_t slot = 0; slot < slots; slot++) {
-        if (below(dice, rarity)) any_command(dice, input->queue + 16 * slot);
-        else spoilt_command(dice, input->queue + 16 * slot);
+        if (below(dice, rarity)) any_command(dice, input->features, input->queue + 16 * slot);
+        else spoilt_command(dice, input->features, input->queue + 16 * slot);
     }
 }
 
@@ -200,7 +232,9 @@ void any_input(struct dice *dice, struct input *input, struct size most, uint64_
     }
     input->features = below(dice, 2) ? 15 : below(dice, 16);
     if (below(dice, 8)) input->features |= HYP_FEATURE;
-    if (below(dice, 2)) input->features |= E2H_SETTING;
+    uint64_t both = roll(dice); /* one roll, as in any_control */
+    if (both % 2) input->features |= E2H_SETTING;
+    if (both >> 63) input->features |= RIL_FEATURE;
     fill_queue(dice, input, UINT64_C(1) << log2size, rarity);
 }
 
@@ -211,7 +245,7 @@ static void start_full(struct input *input, struct size size) {
     input->kept[0] = control_word(2 * slots - 1, slots - 1, CMDQEN, size.log2size);
     input->words = 1 + 4 * size.rows;
     input->bytes = 16 * slots;
-    input->features = 15 | HYP_FEATURE;
+    input->features = 15 | HYP_FEATURE | RIL_FEATURE;
 }
 
 void full_input(struct dice *dice, struct input *input, struct size size, uint64_t rarity) {

@@ -1,6 +1,6 @@
 /* Inputs for the tests of the compiled unit: images, queues and calls from repeatable random numbers, made from the layout that
- * document 01 gives, with the upper half of document 02, T-04, the hypervisor's rows and commands of T-05, the limits of T-06 and
- * the pending bit of T-08; and recorders, as T-01 has them. Nothing here comes from the unit.
+ * document 01 gives, with the upper half of document 02, T-04, the hypervisor's rows and commands of T-05, the limits of T-06, the
+ * ranges of T-07 and the pending bit of T-08; and recorders, as T-01 has them. Nothing here comes from the unit.
  * Identifiers come from small pools, so that rows and commands meet. */
 #ifndef INPUTS_H
 #define INPUTS_H
@@ -43,6 +43,9 @@ extern const struct size LARGEST, SMALL;
 #define HYP_FEATURE (UINT64_C(1) << 4)
 #define E2H_SETTING (UINT64_C(1) << 7)
 
+/* What is among the features for ranges. */
+#define RIL_FEATURE (UINT64_C(1) << 5)
+
 /* A recorder, and parts of its index word; RD and WR stand where the control word has them. */
 enum { MOST_EVENTS = 7, RECORD_BYTES = 32, RECORD_STORES = 5 };
 #define OVERFLOW_FLAG (UINT64_C(1) << 40)
@@ -79,10 +82,13 @@ void some_row(struct dice *dice, uint64_t row[4]);
 /* Whether two rows are in use, last-level and could answer the same lookup (document 02, T-02); marked rows answer none. */
 int doubles(const uint64_t one[4], const uint64_t other[4]);
 
-/* A command of 16 bytes; the second may have a wrong bit or code. */
-void any_command(struct dice *dice, uint8_t slot[16]);
-void spoilt_command(struct dice *dice, uint8_t slot[16]);
+/* A command of 16 bytes, now and then with a range if the features have RIL; the second may have a wrong bit or code. */
+void any_command(struct dice *dice, uint64_t features, uint8_t slot[16]);
+void spoilt_command(struct dice *dice, uint64_t features, uint8_t slot[16]);
 void put_command(uint8_t slot[16], uint64_t low, uint64_t high);
+
+/* The pages of a command that has a range, from the first on: 0 if it has none. */
+uint64_t range_of(const uint8_t slot[16], uint64_t *first);
 
 uint64_t control_word(uint64_t rd, uint64_t wr, uint64_t flags, uint64_t log2size);
 

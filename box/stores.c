@@ -21,6 +21,7 @@ _Static_assert(MOST_ROWS == TAHVENNO_MAX_ROWS && MOST_LOG2SIZE == TAHVENNO_MAX_L
 
 _Static_assert(EL2_MARK == TAHVENNO_EL2 && E2H_MARK == TAHVENNO_EL2_E2H, "the header has other marks");
 _Static_assert(HYP_FEATURE == TAHVENNO_HYP && E2H_SETTING == TAHVENNO_E2H, "the header has other features");
+_Static_assert(RIL_FEATURE == TAHVENNO_RIL, "the header has another feature for ranges");
 
 /* At how many places a run at the limits is cut. */
 enum { PLACES = 1000 };
@@ -33,6 +34,7 @@ static struct {
     uint64_t fills, cut_fills, same_words, same_controls, refused[CALLS], done[CALLS];
     uint64_t upper_fills, upper_removed, doubled;
     uint64_t el2_fills, e2h_fills, marked_beside, el2_removed, e2h_removed;
+    uint64_t ranges, ranges_removed, ranges_several, ranges_of_two;
     uint64_t records, cut_records, same_records, flips, cut_flips, drops;
 } seen;
 
@@ -135,11 +137,26 @@ static size_t stores_one_by_one(const struct input *input, struct store *expecte
     return count;
 }
 
+/* The command at RD. */
+static const uint8_t *command_at(const struct input *input, uint64_t control) {
+    uint64_t slots = UINT64_C(1) << (control >> SIZE_SHIFT & SIZE_BITS);
+    return input->queue + 16 * ((control & RD_BITS) % slots);
+}
+
 /* Whether the command at RD asks for an interrupt: CMD_SYNC with CS 1. */
 static int signals(const struct input *input, uint64_t control) {
-    uint64_t slots = UINT64_C(1) << (control >> SIZE_SHIFT & SIZE_BITS);
-    const uint8_t *slot = input->queue + 16 * ((control & RD_BITS) % slots);
+    const uint8_t *slot = command_at(input, control);
     return slot[0] == 0x46 && (slot[1] >> 4 & 3) == 1;
+}
+
+/* The rows that the command at RD removed, if it has a range (document 02, T-07); and whether that was of more than a page. */
+static void count_range(const struct input *input, uint64_t control, size_t rows) {
+    uint64_t first, pages = range_of(command_at(input, control), &first);
+    if (!pages) return;
+    seen.ranges++;
+    seen.ranges_removed += rows;
+    seen.ranges_several += rows > 1;
+    seen.ranges_of_two += rows > 0 && pages > 1;
 }
 
 /* Document 01's order, with no look at what rows a command is about: rows from the lowest up are cleared, then RD goes forward by
@@ -166,6 +183,7 @@ static void check_order(const struct input *input, const struct store *stores, s
             rows++;
         } else if (store->value == moved) {
             seen.several += rows > 1;
+            count_range(input, control, rows);
             seen.removed += rows;
             seen.consumed++;
             seen.made_pending += moved & ~control & PENDING ? 1 : 0;
@@ -238,6 +256,13 @@ static void check_runs(struct dice *dice, int full, int random) {
     for (uint64_t code = 0x20; code <= 0x30; code += 0x10) { /* one command, the first: it takes marked stage rows, or the others */
         full_input(dice, &input, SMALL, 1000);
         put_command(input.queue + input.bytes - 16, code, 0);
+        check_run(&input);
+    }
+    static const uint64_t ranged[] = {0x13, 0x23, 0x2A}; /* likewise the longest range, from either half's first address on */
+    for (size_t i = 0; i < 2 * sizeof ranged / sizeof ranged[0]; i++) {
+        uint64_t code = ranged[i / 2], first = i % 2 && code != 0x2A ? UPPER_HALF : 0;
+        full_input(dice, &input, SMALL, 1000);
+        put_command(input.queue + input.bytes - 16, code | UINT64_C(31) << 12 | UINT64_C(31) << 20, first | 3 << 10);
         check_run(&input);
     }
     for (int i = 0; i < random; i++) {
@@ -432,6 +457,9 @@ static void report(void) {
     printf("stores: the pending bit is set by %" PRIu64 " stores that move RD, and left as it is by %" PRIu64 " and by %" PRIu64
            " that raise\n",
            seen.made_pending, seen.left_pending, seen.raised_pending);
+    printf("stores: %" PRIu64 " of the commands have a range and remove %" PRIu64 " rows: %" PRIu64 " of them several, %" PRIu64
+           " of more than a page some\n",
+           seen.ranges, seen.ranges_removed, seen.ranges_several, seen.ranges_of_two);
     printf("stores: %" PRIu64 " fills, %" PRIu64 " of them cut, with %" PRIu64 " words that were there already\n", seen.fills,
            seen.cut_fills, seen.same_words);
     printf("stores: %" PRIu64 " of the fills and %" PRIu64 " of the rows removed have an address of the upper half\n",

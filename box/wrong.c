@@ -94,9 +94,31 @@ static void by_mark(const uint64_t *kept, struct due *due, size_t count) {
             else break;
 }
 
+/* Whether the command after so many others has a range, and its first page. */
+static int in_range(const uint64_t *kept, const uint8_t *queue, size_t after, uint64_t *first) {
+    uint64_t slots = UINT64_C(1) << (kept[0] >> SIZE_SHIFT & SIZE_BITS);
+    return range_of(queue + 16 * (((kept[0] & RD_BITS) + after) % slots), first) > 1;
+}
+
+/* The page of the range at which a row is found first. */
+static uint64_t found_at(const uint64_t *kept, const struct due *due, uint64_t first) {
+    uint64_t page = kept[due->word + 2] >> 12;
+    return page < first ? first : page;
+}
+
+/* The rows of a range in the order of their pages, as a loop over these would clear them. */
+static void by_page(const uint64_t *kept, const uint8_t *queue, struct due *due, size_t count) {
+    uint64_t first;
+    for (size_t i = 1, after = due[0].word == 0; i < count; after += due[i++].word == 0)
+        for (size_t k = i; k > 0 && due[k - 1].word && due[k].word && in_range(kept, queue, after, &first); k--)
+            if (found_at(kept, &due[k - 1], first) > found_at(kept, &due[k], first)) swap(&due[k - 1], &due[k]);
+            else break;
+}
+
 /* Puts a wrong order on what a run stores. */
-static void reorder(const uint64_t *kept, struct due *due, size_t count) {
+static void reorder(const uint64_t *kept, const uint8_t *queue, struct due *due, size_t count) {
     if (fault("run-by-mark")) by_mark(kept, due, count);
+    if (fault("run-by-page") && count) by_page(kept, queue, due, count);
     for (size_t i = 1; i < count; i++) {
         int rows = due[i - 1].word && due[i].word;
         if (fault("run-rows-swapped") && rows) {
@@ -120,17 +142,25 @@ static void store_pending(uint64_t *kept, uint64_t value) {
     store(kept, 0, value);
 }
 
-static void store_run(uint64_t *kept, const struct due *due, size_t count) {
+/* A row of several pages once more, if a range removes it. */
+static void store_again(uint64_t *kept, const uint8_t *queue, const struct due *due, uint64_t row) {
+    uint64_t first;
+    if (due->word && (row >> 5 & 63) > 12 && in_range(kept, queue, 0, &first)) store(kept, due->word, 0);
+}
+
+static void store_run(uint64_t *kept, const uint8_t *queue, const struct due *due, size_t count) {
     size_t last = count;
     while (last > 0 && due[last - 1].word) last--;
     for (size_t i = 0; i < count; i++) {
         int narrow = !due[i].word && due[i].value >> 32 == kept[0] >> 32; /* the lower half is all that changes */
+        uint64_t row = kept[due[i].word];
         if (fault("run-rd-gathered") && i + 1 < last && !due[i].word) continue;
         if (fault("run-in-halves")) in_halves(kept, due[i].word, due[i].value);
         else if (fault("run-rd-narrow") && narrow) *(volatile uint32_t *)(void *)kept = (uint32_t)due[i].value;
         else if (!due[i].word) store_pending(kept, due[i].value);
         else store(kept, due[i].word, due[i].value);
         if (fault("run-doubled")) store(kept, due[i].word, due[i].value);
+        if (fault("run-page-again")) store_again(kept, queue, &due[i], row);
     }
 }
 
@@ -156,11 +186,11 @@ uint64_t __wrap_tahvenno_run(uint64_t *kept, size_t words, const uint8_t *queue,
     }
     size_t count = answer[2];
     memcpy(due, stores_of(kept, words, queue, bytes, features, count), count * sizeof due[0]);
-    reorder(kept, due, count);
+    reorder(kept, queue, due, count);
     if (fault("run-queue")) *(volatile uint8_t *)(uintptr_t)queue = *queue;
     if (fault("run-beyond")) store(kept, words, 0);
     if (fault("run-written-back")) write_back(kept, words, due, count);
-    else store_run(kept, due, count);
+    else store_run(kept, queue, due, count);
     return 0;
 }
 

@@ -59,6 +59,7 @@ impl Checker {
         self.tally.upper.count(&before, &call, &ours, kept);
         self.tally.doubles.count(&before, &call, &ours);
         self.tally.hyp.count(&before, &call, &ours, kept);
+        self.tally.ranges.count(&before, &call, &ours, kept);
 
         let scene = self.scene(&before, call, (theirs, lent.inner()), (ours, kept));
         if theirs != ours || lent.inner() != kept {

@@ -3,6 +3,7 @@
 
 mod events;
 mod hyp;
+mod ranges;
 
 use crate::call::{Call, Reply, CUT, FIRST_EVENT, RAISED};
 use crate::model::control::Control;
@@ -21,7 +22,8 @@ pub fn broken(before: &[u64], call: Call, reply: Reply, after: &[u64]) -> Option
             features,
             allowance,
         } => run(before, queue, allowance, reply, after)
-            .or_else(|| hyp::run(before, (queue, features), reply, after)),
+            .or_else(|| hyp::run(before, (queue, features), reply, after))
+            .or_else(|| ranges::run(before, (queue, features), reply, after)),
         Call::Translate(_) | Call::State => {
             (before != after).then_some("a call that only reads stored something")
         }

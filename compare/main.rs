@@ -82,6 +82,7 @@ fn compare(seed: u64, wrong: Option<Wrong>) -> ExitCode {
     phases::upper::cases::cases(&mut checker);
     phases::doubles::cases::cases(&mut checker);
     phases::hyp::cases::cases(&mut checker);
+    phases::ranges::cases::cases(&mut checker);
     phases::events::cases::cases(&mut checker);
     phases::hyp::hyp(&mut checker);
     phases::events::events(&mut checker);
@@ -90,6 +91,7 @@ fn compare(seed: u64, wrong: Option<Wrong>) -> ExitCode {
     phases::pending::pending(&mut checker);
     phases::upper::upper(&mut checker);
     phases::doubles::doubles(&mut checker);
+    phases::ranges::ranges(&mut checker);
     phases::commands::sweeps(&mut checker);
     phases::formats::sweeps(&mut checker);
     phases::controls::sweeps(&mut checker);

@@ -5,6 +5,7 @@ mod doubles;
 mod events;
 mod hyp;
 mod pending;
+mod ranges;
 mod upper;
 
 use crate::call::{Call, Reply, FIRST_EVENT, NAMES};
@@ -13,6 +14,7 @@ use doubles::Doubles;
 use events::Events;
 use hyp::Hyp;
 use pending::Pending;
+use ranges::Ranges;
 use upper::Upper;
 
 const RUN_ENDS: [&str; 5] = ["Off", "Held", "Empty", "Raised", "Cut"];
@@ -45,6 +47,7 @@ pub struct Tally {
     pub upper: Upper,
     pub doubles: Doubles,
     pub hyp: Hyp,
+    pub ranges: Ranges,
     pub events: Events,
     configs: [u64; 8],
     config_hits: [u64; 8],
@@ -91,6 +94,7 @@ impl Tally {
         self.upper.print(&mut table);
         self.doubles.print(&mut table);
         self.hyp.print(&mut table);
+        self.ranges.print(&mut table);
         self.events.print(&mut table);
         table.missing
     }

@@ -1,11 +1,13 @@
 //! Wrong units: the unit with one fault put around it. The comparison has to
 //! catch each of them, and the gate sees to it.
 
+mod asked;
 mod doubles;
 mod events;
 mod forms;
 mod hyp;
 mod pending;
+mod ranges;
 mod reasons;
 mod seen;
 mod upper;
@@ -50,6 +52,8 @@ enum Fault {
     Events(events::Fault),
     /// The hypervisor's rows and commands are others.
     Hyp(hyp::Fault),
+    /// Ranges are others.
+    Ranges(ranges::Fault),
 }
 
 pub struct Wrong {
@@ -121,6 +125,9 @@ fn requests() -> Vec<Wrong> {
     for (name, fault) in hyp::all() {
         add(name, Fault::Hyp(fault));
     }
+    for (name, fault) in ranges::all() {
+        add(name, Fault::Ranges(fault));
+    }
     all
 }
 
@@ -170,6 +177,7 @@ impl Wrong {
             Fault::Upper(fault) => return fault.perform(call, kept, answer),
             Fault::Doubles(fault) => return fault.perform(call, kept, answer),
             Fault::Hyp(fault) => return fault.perform(call, kept, answer),
+            Fault::Ranges(fault) => return fault.perform(call, kept, answer),
             _ => (),
         }
         let before = kept.inner().to_vec();

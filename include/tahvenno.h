@@ -80,6 +80,16 @@
  * leave marked rows alone, with TAHVENNO_HYP or without, and translate does not see them. That a marked row is well formed does
  * not depend on the features. docs/BOX.md says what that leaves to the caller.
  *
+ * RANGES. With TAHVENNO_RIL the commands by address (12, 13, 22, 23 and 2A) may name a range: TG, bits 75:74, is its granule, 1 for
+ * 4 KiB, 2 for 16 KiB and 3 for 64 KiB. The range is (NUM + 1) times 2^SCALE granules, NUM in bits 16:12 and SCALE in bits 24:20,
+ * from Address rounded down to a granule, and ends with the 64-bit space if it would pass that. The command then removes the
+ * rows whose span has an address in the range, and else goes by what it goes by without one: VMID, ASID, E2H, Leaf. TG 0 is the
+ * single address. TTL, bits 73:72, and TTL128, bit 71, say at which level the guest's tables hold the entry; they narrow nothing.
+ *
+ * Illegal by TAHVENNO_BAD_PARAMETER: TG not 0 with NUM 0, SCALE 0 and TTL 0, and so TG 2 with TTL 1, which is no level of a 16 KiB
+ * granule and is read as TTL 0. Illegal by TAHVENNO_RESERVED_BIT: NUM, SCALE, TTL or TTL128 with TG 0, TTL128 with TTL 0, and bit
+ * 25, since SCALE has five bits here. Without TAHVENNO_RIL all five fields are Reserved.
+ *
  * THE INTERRUPT. A guest asks by CMD_SYNC with CS 1 to be interrupted once the commands before it are done. The store that moves
  * RD past such a command also sets PENDING in the control word, and nothing but clear_pending takes it away. So whenever PENDING
  * is set after a run, raise the guest's interrupt, then call clear_pending, with no run between the two: a CMD_SYNC that a run
@@ -286,6 +296,7 @@ enum {
 #define TAHVENNO_ASID16 UINT64_C(4)
 #define TAHVENNO_VMID16 UINT64_C(8)
 #define TAHVENNO_HYP UINT64_C(16)
+#define TAHVENNO_RIL UINT64_C(32)
 #define TAHVENNO_E2H UINT64_C(128)
 
 /* How a run ends, in answer[0]. */

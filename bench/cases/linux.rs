@@ -1,4 +1,4 @@
-//! What a Linux guest sent (crates/verdicts/data), a queueful at a time, each time
+//! What Linux guests sent (crates/verdicts/data), a queueful at a time, each time
 //! over the same full table.
 
 use super::{bytes, memory, shuffle, Case, Command, Per, Work, ENABLED, USUAL};
@@ -7,11 +7,25 @@ use crate::model::run::End;
 use crate::rows::{cd, ste, Reach, Words, STAGE1};
 use std::collections::{BTreeMap, BTreeSet};
 
-const SENT: &[u8] = include_bytes!("../../crates/verdicts/data/linux-6.12-no-ril.bin");
-/// S1P and ASID16: what the guest's SMMU had.
-const FEATURES: u64 = 5;
+/// A guest's commands, and the features that its SMMU had.
+pub struct Guest {
+    sent: &'static [u8],
+    features: u64,
+}
 
-fn commands() -> Vec<Command> {
+/// S1P and ASID16.
+pub const WITHOUT_RANGES: Guest = Guest {
+    sent: include_bytes!("../../crates/verdicts/data/linux-6.12-no-ril.bin"),
+    features: 0b101,
+};
+
+/// S1P, ASID16 and RIL.
+pub const WITH_RANGES: Guest = Guest {
+    sent: include_bytes!("../../crates/verdicts/data/linux-6.12.bin"),
+    features: 0b10_0101,
+};
+
+fn commands(sent: &[u8]) -> Vec<Command> {
     let word = |bytes: &[u8]| {
         bytes
             .iter()
@@ -19,7 +33,7 @@ fn commands() -> Vec<Command> {
             .fold(0, |word, &byte| word << 8 | u64::from(byte))
     };
     let pair = |slot: &[u8]| (word(&slot[..8]), word(&slot[8..]));
-    SENT.chunks_exact(16).map(pair).collect()
+    sent.chunks_exact(16).map(pair).collect()
 }
 
 /// Rows that this guest could have had: an STE and a CD row for each stream that
@@ -57,17 +71,17 @@ fn rows(commands: &[Command]) -> Vec<Words> {
     rows
 }
 
-pub fn case() -> Case {
-    let commands = commands();
+pub fn case(letter: &'static str, what: &'static str, guest: Guest) -> Case {
+    let commands = commands(guest.sent);
     let queues = commands.chunks_exact(USUAL.commands());
     Case {
-        letter: "d",
-        what: "a Linux guest's commands",
+        letter,
+        what,
         size: USUAL,
         kept: memory(USUAL, ENABLED, &rows(&commands)),
         work: Work::Runs {
             queues: queues.map(|queue| bytes(USUAL, queue)).collect(),
-            features: FEATURES,
+            features: guest.features,
         },
         per: Per::Command,
         end: End::Empty as u64,

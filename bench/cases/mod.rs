@@ -44,8 +44,10 @@ impl Size {
     }
 }
 
-/// S1P, S2P, ASID16, VMID16: all but Hyp.
+/// S1P, S2P, ASID16, VMID16: all but Hyp and RIL.
 pub const GUEST_FEATURES: u64 = 15;
+/// For commands with a range.
+pub const RIL: u64 = 1 << 5;
 /// CMDQEN.
 pub const ENABLED: u64 = 1 << 49;
 
@@ -139,7 +141,7 @@ pub fn all() -> Vec<Case> {
         mixed::case("a", "mixed commands, every second removes a row", USUAL),
         pages::by_address("b", "commands by address, none removes a row", USUAL),
         pages::without_scope(),
-        linux::case(),
+        linux::case("d", "a Linux guest's commands", linux::WITHOUT_RANGES),
         chains::check(),
         chains::transaction(),
         mixed::case(
@@ -149,6 +151,12 @@ pub fn all() -> Vec<Case> {
         ),
         pages::by_address("h", "as b at the limits", LARGEST),
         pages::fill(),
+        pages::by_range("j", "as b, each command with a range of 16 pages", USUAL),
+        linux::case(
+            "k",
+            "a Linux guest's commands, with ranges",
+            linux::WITH_RANGES,
+        ),
     ]
 }
 

@@ -1,8 +1,8 @@
 //! One guest's pages: half the rows are of stage 1 and half of stage 2, and no
 //! command removes any.
 
-use super::{memory, shuffle, Case, Command, Per, Size, Work};
-use super::{LARGEST, STAGE1_PAYLOAD, STAGE2_PAYLOAD, USUAL};
+use super::{bytes, memory, shuffle, Case, Command, Per, Size, Work};
+use super::{GUEST_FEATURES, LARGEST, RIL, STAGE1_PAYLOAD, STAGE2_PAYLOAD, USUAL};
 use crate::random::Random;
 use crate::rows::{Reach, Words, STAGE1, STAGE2};
 
@@ -38,8 +38,7 @@ fn rows(size: Size) -> Vec<Words> {
     rows
 }
 
-/// The scan's worst case: a command's kind and VMID fit half the rows, no address.
-pub fn by_address(letter: &'static str, what: &'static str, size: Size) -> Case {
+fn commands(size: Size) -> Vec<Command> {
     let mut random = Random::new(5);
     let mut command = |place: usize| -> Command {
         let low = VMID << 32;
@@ -53,7 +52,28 @@ pub fn by_address(letter: &'static str, what: &'static str, size: Size) -> Case 
     };
     let mut commands: Vec<Command> = (0..size.commands()).map(&mut command).collect();
     shuffle(6, &mut commands);
-    Case::full(letter, what, size, &rows(size), &commands)
+    commands
+}
+
+/// The scan's worst case: a command's kind and VMID fit half the rows, no address.
+pub fn by_address(letter: &'static str, what: &'static str, size: Size) -> Case {
+    Case::full(letter, what, size, &rows(size), &commands(size))
+}
+
+/// The same commands with a range each: 4 KiB granules, NUM 15, SCALE 0, which is 16
+/// pages, from an address that keeps them within the odd block.
+pub fn by_range(letter: &'static str, what: &'static str, size: Size) -> Case {
+    let (num, granule) = (15 << 12, 1 << 10);
+    let ranged = |&(low, high): &Command| (low | num, high & !0xF000 | granule);
+    let commands: Vec<Command> = commands(size).iter().map(ranged).collect();
+    let full = Case::full(letter, what, size, &rows(size), &commands);
+    Case {
+        work: Work::Runs {
+            queues: vec![bytes(size, &commands)],
+            features: GUEST_FEATURES | RIL,
+        },
+        ..full
+    }
 }
 
 pub fn without_scope() -> Case {

@@ -1,6 +1,7 @@
 //! Commands whose fields come from the pools, and their illegal relatives.
 
 use super::random::Random;
+use super::ranges::reaching;
 use super::world::World;
 use crate::limits::{ADDRESS, ROWS, SLOTS};
 use crate::model::command::{decode, Features};
@@ -11,6 +12,8 @@ pub const CODES: [u64; 18] = [
 ];
 /// Those of the hypervisor's own rows.
 pub const HYP_CODES: [u64; 4] = [0x20, 0x21, 0x22, 0x23];
+/// Those that have an address, from which a range may start.
+pub const RANGED: [u64; 5] = [0x12, 0x13, 0x22, 0x23, 0x2A];
 
 /// Codes that take few rows at a time stand more often than the sweeping ones.
 const USUAL: [u64; 30] = [
@@ -18,11 +21,13 @@ const USUAL: [u64; 30] = [
     0x13, 0x13, 0x20, 0x21, 0x21, 0x22, 0x22, 0x23, 0x28, 0x2A, 0x2A, 0x30, 0x46, 0x46,
 ];
 
-/// The bits of the features: S1P, S2P, ASID16 and VMID16; Hyp; and the setting E2H.
+/// The bits of the features: S1P, S2P, ASID16 and VMID16; Hyp; RIL; and the setting
+/// E2H.
 pub const FOUR: u64 = 0b1111;
 pub const HYP: u64 = 1 << 4;
+pub const RIL: u64 = 1 << 5;
 pub const E2H: u64 = 1 << 7;
-pub const KNOWN: u64 = FOUR | HYP | E2H;
+pub const KNOWN: u64 = FOUR | HYP | RIL | E2H;
 
 /// Low and high word.
 pub type Command = (u64, u64);
@@ -73,13 +78,16 @@ pub fn usual(random: &mut Random, world: &World, features: u64) -> Command {
             break;
         }
     }
-    command
+    match features & RIL {
+        0 => command,
+        _ => reaching(command, 2),
+    }
 }
 
 /// A command turned illegal in one of several ways; some stay legal.
 pub fn spoilt(random: &mut Random, world: &World) -> Command {
     let code = random.pick(&CODES);
-    let (low, high) = of_code(random, world, code);
+    let (low, high) = reaching(of_code(random, world, code), 4);
     match random.below(6) {
         0 => (low & !0xFF | random.below(256), high),
         1 => (low ^ 1 << random.below(64), high),
@@ -122,9 +130,11 @@ pub fn combinations() -> impl Iterator<Item = u64> {
     (0..=KNOWN).filter(|bits| bits & !KNOWN == 0)
 }
 
-/// Hyp, mostly there, and E2H, set or not.
-pub fn hyp(random: &mut Random) -> u64 {
-    random.pick(&[0, E2H, HYP, HYP, HYP, HYP | E2H, HYP | E2H, HYP | E2H])
+/// Hyp, mostly there, and E2H, set or not; by the same draw RIL, there or not.
+pub fn settings(random: &mut Random) -> u64 {
+    let draw = random.next();
+    let hyp = [0, E2H, HYP, HYP, HYP, HYP | E2H, HYP | E2H, HYP | E2H];
+    hyp[draw as usize % hyp.len()] | (draw >> 63) * RIL
 }
 
 /// Features, often all of them; now and then with bits set that nobody looks at.
@@ -134,7 +144,7 @@ pub fn features(random: &mut Random) -> u64 {
     } else {
         random.below(16)
     };
-    let known = four | hyp(random);
+    let known = four | settings(random);
     if random.once_in(8) {
         known | random.next() & !KNOWN
     } else {

@@ -6,6 +6,7 @@ pub mod doubles;
 pub mod events;
 pub mod images;
 pub mod random;
+pub mod ranges;
 pub mod rows;
 pub mod transactions;
 pub mod world;

@@ -1,6 +1,7 @@
 //! Commands: which are legal, what a legal one does (document 01, Commands and
-//! their scopes; document 02, T-05), and why another is not (T-09).
+//! their scopes; document 02, T-05 and T-07), and why another is not (T-09).
 
+use super::range::{self, Fields};
 use super::reason::Reason;
 use super::scope::{Page, Scope};
 use super::words::{bit, part};
@@ -13,6 +14,7 @@ pub struct Features {
     pub asid16: bool,
     pub vmid16: bool,
     pub hyp: bool,
+    pub ril: bool,
     pub e2h: bool,
 }
 
@@ -25,6 +27,7 @@ impl Features {
             asid16: bit(bits, 2),
             vmid16: bit(bits, 3),
             hyp: bit(bits, 4),
+            ril: bit(bits, 5),
             e2h: bit(bits, 7),
         }
     }
@@ -42,7 +45,7 @@ pub enum Effect {
 }
 
 /// Highest and lowest bit, counted over the whole 128-bit command.
-type Bits = (u32, u32);
+pub type Bits = (u32, u32);
 const STREAM: Bits = (63, 32);
 const LEAF: Bits = (64, 64);
 const VMID: Bits = (47, 32);
@@ -72,11 +75,18 @@ fn named(code: u64) -> Option<&'static [Bits]> {
     })
 }
 
+/// The fields of a range, in the commands that have an address; None in others.
+pub fn ranged(code: u64, low: u64, high: u64) -> Option<Fields> {
+    matches!(code, 0x12 | 0x13 | 0x22 | 0x23 | 0x2A).then(|| Fields::of(low, high))
+}
+
 /// Whether a bit outside the named parts is set. Without stage 2 the VMID
-/// counts as unnamed.
+/// counts as unnamed, and without RIL the fields of a range.
 fn reserved_bit_set(low: u64, high: u64, names: &[Bits], features: Features) -> bool {
     let mut rest = ((high as u128) << 64 | low as u128) & !0xFF;
-    for &(top, bottom) in names {
+    let fields = ranged(part(low, 7, 0), low, high).filter(|_| features.ril);
+    let own = fields.map_or(&[][..], |fields| fields.named());
+    for &(top, bottom) in names.iter().chain(own) {
         if (top, bottom) != VMID || features.s2p {
             rest &= !((u128::MAX >> (127 + bottom - top)) << bottom);
         }
@@ -100,9 +110,11 @@ fn too_wide(low: u64, names: &[Bits], features: Features) -> bool {
         || (names.contains(&VMID) && !features.vmid16 && part(low, 47, 40) != 0)
 }
 
-/// CS 3 of CMD_SYNC, the only value of a named part that is not allowed.
-fn bad_parameter(code: u64, low: u64) -> bool {
-    code == 0x46 && part(low, 13, 12) == 3
+/// Values of named parts that are not allowed: CS 3 of CMD_SYNC, and a range that
+/// Arm has Reserved. Without RIL a field of a range is a Reserved bit before that.
+fn bad_parameter(code: u64, low: u64, high: u64) -> bool {
+    let fields = ranged(code, low, high);
+    code == 0x46 && part(low, 13, 12) == 3 || fields.is_some_and(|fields| fields.bad())
 }
 
 /// The effect of a legal command, or the first reason why it's illegal.
@@ -115,7 +127,7 @@ pub fn decode(low: u64, high: u64, features: Features) -> Result<Effect, Reason>
     if reserved_bit_set(low, high, names, features) {
         return Err(Reason::ReservedBit);
     }
-    if bad_parameter(code, low) {
+    if bad_parameter(code, low, high) {
         return Err(Reason::BadParameter);
     }
     if too_wide(low, names, features) {
@@ -137,11 +149,8 @@ fn scope(code: u64, low: u64, high: u64, features: Features) -> Scope {
     let leaf = bit(high, 0);
     // The field keeps the address's own places; the bits below are dropped.
     let address = part(high, 63, 12) << 12;
-    let page = Page {
-        vmid,
-        leaf,
-        address,
-    };
+    let extent = range::extent(address, Fields::of(low, high));
+    let page = Page { vmid, leaf, extent };
     match code {
         0x03..=0x06 => stream_scope(code, low, high),
         0x10 => Scope::Stage1 { vmid },

@@ -13,6 +13,7 @@ pub mod doubles;
 pub mod events;
 pub mod fill;
 pub mod image;
+pub mod range;
 pub mod reason;
 pub mod refusal;
 pub mod row;

@@ -1,6 +1,7 @@
 //! Which rows a removing command takes (document 01, Commands and their scopes;
-//! document 02, T-05).
+//! document 02, T-05 and T-07).
 
+use super::range::Extent;
 use super::row::{Kind, Regime, Row};
 
 #[derive(Clone, Copy, Debug, PartialEq, Eq)]
@@ -46,7 +47,7 @@ pub enum Scope {
 pub struct Page {
     pub vmid: u64,
     pub leaf: bool,
-    pub address: u64,
+    pub extent: Extent,
 }
 
 impl Scope {
@@ -106,7 +107,7 @@ fn met(row: &Row, asid: Option<u64>) -> bool {
 
 impl Page {
     fn takes(&self, row: &Row) -> bool {
-        row.vmid() == self.vmid && row.covers(self.address) && (row.last_level() || !self.leaf)
+        row.vmid() == self.vmid && self.extent.meets(row) && (row.last_level() || !self.leaf)
     }
 }
 

@@ -3,7 +3,7 @@
 use super::{bytes, waiting};
 use crate::call::{Asked, Call};
 use crate::checker::Checker;
-use crate::generate::commands::{combinations, hyp, of_code, CODES};
+use crate::generate::commands::{combinations, of_code, settings, CODES};
 use crate::generate::images::{table, with_rows};
 use crate::generate::random::Random;
 use crate::generate::rows::{
@@ -62,7 +62,7 @@ fn bits(checker: &mut Checker) {
             } else {
                 (low, high ^ 1 << (bit - 64))
             };
-            let setting = hyp(&mut random);
+            let setting = settings(&mut random);
             for features in 0..16 {
                 one(checker, &rows, command, features | setting);
             }

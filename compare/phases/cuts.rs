@@ -4,7 +4,7 @@
 use super::{bytes, waiting};
 use crate::call::{Call, CUT};
 use crate::checker::Checker;
-use crate::generate::commands::{features, hyp, queue_with, FOUR, HYP};
+use crate::generate::commands::{features, queue_with, settings, FOUR, HYP};
 use crate::generate::doubles::{fresh, near};
 use crate::generate::images::{control, image, queue_for, shuffle, table, with_rows};
 use crate::generate::random::Random;
@@ -62,7 +62,7 @@ fn full(random: &mut Random, log2size: u64, rows: u64, rarity: u64) -> Work {
     };
     let rows: Vec<_> = (0..rows).map(|_| any_row(random, &world)).collect();
     let features = if rarity == NEVER {
-        FOUR | HYP | hyp(random)
+        FOUR | HYP | settings(random)
     } else {
         features(random)
     };

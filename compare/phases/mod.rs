@@ -11,6 +11,7 @@ pub mod formats;
 pub mod hyp;
 pub mod limits;
 pub mod pending;
+pub mod ranges;
 pub mod reasons;
 pub mod sequences;
 pub mod single;

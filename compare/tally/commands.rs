@@ -1,7 +1,7 @@
 //! What became of commands, and why and where runs raised.
 
 use super::Table;
-use crate::generate::commands::CODES;
+use crate::generate::commands::{CODES, RANGED};
 use crate::limits::LOG2SIZE;
 use crate::model::control::Control;
 use crate::model::reason::Reason;
@@ -121,6 +121,6 @@ fn possible(code: u64, reason: Reason) -> bool {
             matches!(code, 0x05 | 0x06 | 0x10..=0x13 | 0x20..=0x23 | 0x28 | 0x2A)
         }
         Reason::ReservedBit => known,
-        Reason::BadParameter => code == 0x46,
+        Reason::BadParameter => code == 0x46 || RANGED.contains(&code),
     }
 }

@@ -4,23 +4,16 @@
 mod commands;
 mod features;
 
+use super::asked::{retold, with, Asked};
 use super::seen::{one_by_one, seen};
 use super::{doubles, forms};
-use crate::call::{Call, FIRST_EVENT, NAMES, RAISED};
+use crate::call::{Call, FIRST_EVENT, NAMES};
 use crate::generate::commands::HYP;
 use crate::generate::rows::{EL2, EL2_E2H};
 use crate::lent::Lent;
 use crate::limits::UPPER;
 use crate::model::row::{Kind, Regime, Row};
 use crate::unit;
-
-/// A command as a fault sees it, and the features.
-#[derive(Clone, Copy)]
-pub struct Asked {
-    low: u64,
-    high: u64,
-    features: u64,
-}
 
 #[derive(Clone, Copy)]
 pub enum Fault {
@@ -208,48 +201,21 @@ impl Fault {
                     self.command(call, slot, memory, answer)
                 })
             }
-            (Fault::Told(told), Call::Run { .. }) => {
-                let number = unit::perform(call, memory, answer);
-                let slot = answer.inner()[6];
-                if number == 0 && answer.inner()[0] == RAISED {
-                    let asked = Asked::at(call, slot);
-                    let told = told(&asked, answer.inner()[5]);
-                    answer.inner_mut()[5] = told;
-                }
-                number
-            }
+            (Fault::Told(told), Call::Run { .. }) => retold(call, memory, answer, told),
             _ => unit::perform(call, memory, answer),
         }
     }
 
     /// The run over the only command that waits.
     fn command(self, call: Call, slot: u64, memory: &mut Lent, answer: &mut Lent) -> u64 {
-        let (
-            Call::Run {
-                queue, allowance, ..
-            },
-            asked,
-        ) = (call, Asked::at(call, slot))
-        else {
-            return unit::perform(call, memory, answer);
-        };
+        let asked = Asked::at(call, slot);
         match self {
             Fault::Scans(codes, row) if codes.contains(&asked.code()) => {
                 seen(call, memory, answer, |seen| row(seen, &asked))
             }
-            Fault::Reads(read) => {
-                let read = read(asked);
-                let mut queue = queue.to_vec();
-                let start = 16 * slot as usize;
-                queue[start..start + 8].copy_from_slice(&read.low.to_le_bytes());
-                queue[start + 8..start + 16].copy_from_slice(&read.high.to_le_bytes());
-                let call = Call::Run {
-                    queue: &queue,
-                    features: read.features,
-                    allowance,
-                };
+            Fault::Reads(read) => with(call, (read(asked), slot), |call| {
                 unit::perform(call, memory, answer)
-            }
+            }),
             _ => unit::perform(call, memory, answer),
         }
     }
@@ -270,36 +236,4 @@ fn hidden(call: Call, memory: &mut Lent, answer: &mut Lent) -> u64 {
         answer.inner_mut()[0] = MISS_STAGE_1;
     }
     number
-}
-
-impl Asked {
-    /// The command of a run's slot.
-    fn at(call: Call, slot: u64) -> Asked {
-        let Call::Run {
-            queue, features, ..
-        } = call
-        else {
-            panic!("a command of no run");
-        };
-        let start = 16 * slot as usize;
-        let word = |from: usize| u64::from_le_bytes(queue[from..from + 8].try_into().unwrap());
-        Asked {
-            low: word(start),
-            high: word(start + 8),
-            features,
-        }
-    }
-
-    fn code(&self) -> u8 {
-        self.low as u8
-    }
-
-    /// Whether it is one of 20 to 23.
-    fn own(&self) -> bool {
-        (0x20..=0x23).contains(&self.code())
-    }
-
-    fn has(&self, bits: u64) -> bool {
-        self.features & bits == bits
-    }
 }

@@ -4,7 +4,7 @@ use super::forms::own;
 use super::{first, insist, taken, ASID, WRITE_BACK};
 use crate::call::RAISED;
 use crate::checker::Checker;
-use crate::generate::commands::{combinations, Command, HYP, HYP_CODES};
+use crate::generate::commands::{combinations, Command, HYP, HYP_CODES, RIL};
 use crate::generate::rows::{marked, Reach, Words, EL2_E2H};
 use crate::phases::reasons::bits::{changed, full};
 
@@ -61,17 +61,25 @@ fn named(code: u64) -> Command {
 
 const LAW: &str = "a command of the hypervisor's isn't illegal as T-05 and T-09 have it";
 
-/// Feature absent, then Reserved bit; else it is carried out.
+/// Feature absent, then Reserved bit; else it is carried out. With RIL a bit of TG
+/// alone is a bad parameter, and the other fields of a range are Reserved without it.
 fn one(checker: &mut Checker, rows: &[Words], command: Command, features: u64) {
-    let (low, high) = named(command.0 & 0xFF);
+    let code = command.0 & 0xFF;
+    let (low, high) = named(code);
     let absent = features & S1P == 0 || features & HYP == 0;
-    let reserved = command.0 & !low != 0 || command.1 & !high != 0;
+    let tg = match code {
+        0x22 | 0x23 if features & RIL != 0 => 0b11 << 10,
+        _ => 0,
+    };
+    let reserved = command.0 & !low != 0 || command.1 & !(high | tg) != 0;
+    let bad = command.1 & tg != 0;
     let (_, answer) = taken(checker, rows, command, features);
     let [end, _, _, _, _, reason, ..] = answer;
-    let met = match (absent, reserved) {
-        (true, _) => (end, reason) == (RAISED, 2),
-        (false, true) => (end, reason) == (RAISED, 3),
-        (false, false) => end != RAISED,
+    let met = match (absent, reserved, bad) {
+        (true, _, _) => (end, reason) == (RAISED, 2),
+        (false, true, _) => (end, reason) == (RAISED, 3),
+        (false, false, true) => (end, reason) == (RAISED, 4),
+        (false, false, false) => end != RAISED,
     };
     insist(checker, met, LAW, rows, (command, features));
 }

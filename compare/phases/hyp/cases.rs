@@ -142,7 +142,7 @@ fn illegal(checker: &mut Checker) {
 }
 
 /// What each of them has: 20 nothing, 21 an ASID, 22 an ASID, Leaf and address, 23
-/// Leaf and address. NUM, SCALE, TG, TTL and TTL128 are nobody's yet.
+/// Leaf and address. Without RIL they have none of NUM, SCALE, TG, TTL and TTL128.
 fn reserved(checker: &mut Checker) {
     let (leaf, page) = (1, 1 << 12);
     for (command, legal) in [
@@ -177,7 +177,13 @@ fn reserved(checker: &mut Checker) {
 }
 
 /// A run over one command, which removes exactly the rows with these numbers.
-fn takes(checker: &mut Checker, rows: &[Words], command: Command, features: u64, gone: &[usize]) {
+pub fn takes(
+    checker: &mut Checker,
+    rows: &[Words],
+    command: Command,
+    features: u64,
+    gone: &[usize],
+) {
     let removed = gone.len() as u64;
     one(
         checker,

@@ -46,7 +46,7 @@ fn first(span: u64, page: u64) -> Reach {
 }
 
 /// A command alone over the rows: which of them it takes, and its answer.
-fn taken(
+pub fn taken(
     checker: &mut Checker,
     rows: &[Words],
     command: Command,
@@ -60,7 +60,7 @@ fn taken(
 }
 
 /// Stops the program unless the law holds of a command over the rows.
-fn insist(
+pub fn insist(
     checker: &mut Checker,
     holds: bool,
     law: &str,

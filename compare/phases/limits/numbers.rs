@@ -10,7 +10,9 @@ use super::{asked, bytes, chain, first, second, table, waiting, ALL, AS_IT_COMES
 use super::{ASID, OUTPUT, PAGE, STAGE1_PAYLOAD, STREAM, SUBSTREAM, VMID, WRITE_BACK};
 use crate::call::{Call, NUMBERS};
 use crate::checker::Checker;
+use crate::generate::commands::RIL;
 use crate::generate::images::with_rows;
+use crate::generate::ranges::Range;
 use crate::generate::rows::{cd, cd_table, ste, ste_block, Reach, Words};
 use crate::limits::LOG2SIZE;
 use crate::model::control::Control;
@@ -78,8 +80,8 @@ fn fills(checker: &mut Checker) {
     }
 }
 
-/// A row and a command for each feature: 13 and 28 want one, and 11 and 10 have
-/// an ASID and a VMID of more than eight bits.
+/// A row and a command for each feature: 13 and 28 want one, 11 and 10 have an ASID
+/// and a VMID of more than eight bits, and the last one has a range.
 fn runs(checker: &mut Checker) {
     let (wide_asid, wide_vmid) = (0x100 | ASID, 0x200 | VMID);
     let of = |vmid, asid| {
@@ -104,10 +106,10 @@ fn runs(checker: &mut Checker) {
         (0x28 | VMID << 32, 0),
         (0x1046, 0),
         (0x30, 0),
-        (0x46, 0),
+        Range::new(1, 1, 0).over((0x13, PAGE)),
     ]);
     let kept = with_rows(waiting(3, 8), &rows);
-    for features in [0, 0b0101, 0b0010, 0b1011, ALL] {
+    for features in [0, 0b0101, 0b0010, 0b1011, ALL, ALL | RIL] {
         for allowance in [0, 3, 6, u64::MAX] {
             sweep(
                 checker,

@@ -6,6 +6,7 @@ use crate::call::Call;
 use crate::checker::Checker;
 use crate::generate::commands::KNOWN;
 use crate::generate::images::with_rows;
+use crate::generate::ranges::Range;
 use crate::generate::rows::{cd, cd_table, marked, ste, Reach, Words, EL2_E2H};
 use crate::limits::{LOG2SIZE, ROWS, SLOTS};
 use crate::model::control::Control;
@@ -39,9 +40,11 @@ fn run(checker: &mut Checker, kept: &mut [u64], queue: &[u8], allowance: u64) {
     checker.call(kept, call);
 }
 
-/// A command of each code, CMD_SYNC with each CS, and one that is illegal.
-fn kinds() -> [(u64, u64); 21] {
+/// A command of each code, two with a range, CMD_SYNC with each CS, and one that is
+/// illegal.
+fn kinds() -> [(u64, u64); 23] {
     let (stream, vmid, asid) = (STREAM << 32, VMID << 32, ASID << 48);
+    let range = Range::new(2, 1, 0);
     [
         (0x1046, 0),
         (0x46, 0),
@@ -62,6 +65,8 @@ fn kinds() -> [(u64, u64); 21] {
         (0x23, PAGE),
         (0x28 | vmid, 0),
         (0x2A | vmid, PAGE),
+        range.over((0x12 | vmid | asid, 0)),
+        range.over((0x2A | vmid, PAGE)),
         (0x30, 0),
         (0, 0),
     ]

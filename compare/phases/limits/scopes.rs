@@ -6,6 +6,7 @@ use crate::call::Call;
 use crate::checker::Checker;
 use crate::generate::commands::KNOWN;
 use crate::generate::images::with_rows;
+use crate::generate::ranges::Range;
 use crate::generate::rows::{cd, cd_table, marked, ste, ste_block, Words, EL2, EL2_E2H};
 use crate::limits::ROWS;
 
@@ -22,8 +23,9 @@ pub fn sweeps(checker: &mut Checker) {
     }
 }
 
-/// A command of each code, and a row in its scope.
+/// A command of each code, and a row in its scope; some also with a range.
 fn scopes() -> Vec<((u64, u64), Words)> {
+    let range = Range::new(1, 1, 0);
     let (stream, vmid) = (STREAM << 32, VMID << 32);
     let (asid, substream) = (ASID << 48, SUBSTREAM << 12);
     let page1 = first().page(MIDDLE, STAGE1_PAYLOAD);
@@ -47,6 +49,9 @@ fn scopes() -> Vec<((u64, u64), Words)> {
         ((0x28 | vmid, 0), page1),
         ((0x28 | vmid, 0), second(PAGE).table()),
         ((0x2A | vmid, PAGE | 1), page2),
+        (range.over((0x12 | vmid | asid, 0)), page1),
+        (range.over((0x23, 0)), marked(page1, EL2_E2H)),
+        (range.over((0x2A | vmid, PAGE)), second(PAGE).table()),
         ((0x30, 0), page1),
         ((0x30, 0), page2),
     ]

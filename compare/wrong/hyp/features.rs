@@ -11,11 +11,9 @@ const S2P: u64 = 1 << 1;
 const ASID16: u64 = 1 << 2;
 const VMID: u64 = 0xFFFF << 32;
 const ASID: u64 = 0xFFFF << 48;
-const LOW: u64 = 0xFFFF_FF00;
 const UPPER_ASID: u64 = 0xFF << 56;
-const RANGE: u64 = 0xFFE;
 
-pub const ALL: [(&str, Fault); 46] = [
+pub const ALL: [(&str, Fault); 44] = [
     ("Hyp not asked", Fault::Reads(|asked| given(asked, HYP))),
     (
         "20: Hyp not asked",
@@ -112,14 +110,6 @@ pub const ALL: [(&str, Fault); 46] = [
     (
         "21: bits 127:64 not Reserved",
         Fault::Reads(|asked| of(0x21, asked, |asked| unread(asked, 0, u64::MAX))),
-    ),
-    (
-        "22: range fields not Reserved",
-        Fault::Reads(|asked| of(0x22, asked, |asked| unread(asked, LOW, RANGE))),
-    ),
-    (
-        "23: range fields not Reserved",
-        Fault::Reads(|asked| of(0x23, asked, |asked| unread(asked, LOW, RANGE))),
     ),
     (
         "22: Leaf not read",

@@ -11,17 +11,17 @@ use Rattle.words.proofs.Masks.{reads, read-back}
 use Rattle.commands.specs.declared.Features.{Features}
 use Rattle.commands.specs.declared.Reason.{Reason}
 use Rattle.commands.specs.declared.Reason.the-variants.{UnknownCode, FeatureAbsent, ReservedBit, BadParameter}
-use Rattle.commands.specs.Formats.{namedAt}
+use Rattle.commands.specs.Formats.{shapeOf, namedAt}
 use Rattle.commands.specs.Decoding.{codeOf, placeIn, knownCode, featurePresent, clean, parameterGood, none, isLegal}
 
 -- Reserved bits, one by one: each of the 128 bits that is set is named
-pub clean-means : (f : Features) (k c : ℕ) → clean f k c ≡ true → (i : ℕ) → i < 128 → isSet i c ≡ true → named (namedAt f k) i ≡ true
+pub clean-means : (f : Features) (k c : ℕ) → clean f k c ≡ true → (i : ℕ) → i < 128 → isSet i c ≡ true → named (namedAt f (shapeOf c) k) i ≡ true
 unfolding clean
-clean-means f k c e = reads (named (namedAt f k)) 128 c e
+clean-means f k c e = reads (named (namedAt f (shapeOf c) k)) 128 c e
 
-pub means-clean : (f : Features) (k c : ℕ) → ((i : ℕ) → i < 128 → isSet i c ≡ true → named (namedAt f k) i ≡ true) → clean f k c ≡ true
+pub means-clean : (f : Features) (k c : ℕ) → ((i : ℕ) → i < 128 → isSet i c ≡ true → named (namedAt f (shapeOf c) k) i ≡ true) → clean f k c ≡ true
 unfolding clean
-means-clean f k c g = read-back (named (namedAt f k)) 128 c g
+means-clean f k c g = read-back (named (namedAt f (shapeOf c) k)) 128 c g
 
 -- the four tests
 pub record Tests (f : Features) (c : ℕ) : Type 0 where

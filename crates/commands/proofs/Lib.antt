@@ -1,4 +1,5 @@
 pub mod Masks
+pub mod RangeFields
 pub mod Codes
 pub mod Commands
 pub mod Legality

@@ -14,7 +14,7 @@ use Rattle.commands.specs.declared.Reason.{Reason}
 use Rattle.commands.specs.declared.Reason.the-variants.{UnknownCode, FeatureAbsent, ReservedBit, BadParameter}
 use Rattle.commands.specs.declared.Decoded.{Decoded}
 use Rattle.commands.specs.declared.Decoded.the-variants.{Legal, Illegal}
-use Rattle.commands.specs.Formats.{namedAt}
+use Rattle.commands.specs.Formats.{shapeOf, namedAt}
 use Rattle.commands.specs.Decoding.{codeOf, placeIn, knownCode, featurePresent, clean, parameterGood, commandOf, none, first, isLegal, decode, reasonNumber}
 use Rattle.commands.proofs.Legality.{four, clean-means}
 
@@ -127,13 +127,13 @@ pub record Stain (f : Features) (k c : ℕ) : Type 0 where
   pub bit : ℕ
   pub within : bit < 128
   pub is-set : isSet bit c ≡ true
-  pub unnamed : named (namedAt f k) bit ≡ false
+  pub unnamed : named (namedAt f (shapeOf c) k) bit ≡ false
 
 -- Reserved bits, one by one: the test fails exactly where there is one
 module _ (f : Features) (k c : ℕ) where
   pub stained : clean f k c ≡ false → Stain f k c
   unfolding clean
-  stained e = let s = spoilt (named (namedAt f k)) 128 c e in record { bit = s .bit; within = s .within; is-set = s .is-set; unnamed = s .fails }
+  stained e = let s = spoilt (named (namedAt f (shapeOf c) k)) 128 c e in record { bit = s .bit; within = s .within; is-set = s .is-set; unnamed = s .fails }
 
   pub not-clean : Stain f k c → clean f k c ≡ false
   not-clean s = by-test (clean f k c) refl

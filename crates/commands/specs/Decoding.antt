@@ -1,7 +1,7 @@
--- Document 01, Commands and their scopes, with document 02, T-05 and T-09: which commands are legal, and what they are.
+-- Document 01, Commands and their scopes, with document 02, T-05, T-07 and T-09: which commands are legal, and what they are.
 -- Assumes nothing.
 use Prim.Native.Nat.{ℕ, _+_, _*_}
-use mathlib.Core.Bool.{Bool, true, false, not, _&&_}
+use mathlib.Core.Bool.{Bool, true, false, not, _&&_, _||_}
 use mathlib.Core.List.{List, [], _∷_}
 use lib.Dec.{eqb, ltb}
 use Rattle.words.specs.Choice.{pick}
@@ -16,7 +16,7 @@ use Rattle.commands.specs.declared.Reason.{Reason}
 use Rattle.commands.specs.declared.Reason.the-variants.{UnknownCode, FeatureAbsent, ReservedBit, BadParameter}
 use Rattle.commands.specs.declared.Decoded.{Decoded}
 use Rattle.commands.specs.declared.Decoded.the-variants.{Legal, Illegal}
-use Rattle.commands.specs.Formats.{Format, codeBits, csBits, formats, codeIn, needsIn, commandIn, codes, howMany, namedAt}
+use Rattle.commands.specs.Formats.{Format, codeBits, csBits, numBits, scaleBits, ttlBits, tgBits, shapeOf, formats, codeIn, needsIn, commandIn, codes, howMany, namedAt}
 
 -- a command is one number of 128 bits
 abbrev pub codeOf : ℕ → ℕ
@@ -40,11 +40,27 @@ featurePresent f code = at (λ (l : Format). needsIn l f) true formats code
 
 -- each set bit is one that the code names
 unfoldable pub clean : Features → ℕ → ℕ → Bool
-clean f k c = setOnly 128 (named (namedAt f k)) c
+clean f k c = setOnly 128 (named (namedAt f (shapeOf c) k)) c
 
 -- CS of 46 is not 3
+abbrev pub badCs : ℕ → ℕ → Bool
+badCs code c = eqb code 0x46 && eqb (get csBits c) 3
+
+-- document 02, T-07: the codes whose commands may have a range
+abbrev pub byAddress : ℕ → Bool
+byAddress code = eqb code 0x12 || eqb code 0x13 || eqb code 0x22 || eqb code 0x23 || eqb code 0x2A
+
+-- TTL gives no level: it is 0, or 1 of the granule TG 2, which has none
+abbrev pub noLevel : ℕ → Bool
+noLevel c = eqb (get ttlBits c) 0 || (eqb (get tgBits c) 2 && eqb (get ttlBits c) 1)
+
+-- and a range of one granule needs one
+abbrev pub badRange : ℕ → ℕ → Bool
+badRange code c =
+    byAddress code && not (eqb (get tgBits c) 0) && (eqb (get numBits c) 0 && eqb (get scaleBits c) 0) && noLevel c
+
 unfoldable pub parameterGood : ℕ → ℕ → Bool
-parameterGood code c = not (eqb code 0x46 && eqb (get csBits c) 3)
+parameterGood code c = not (badCs code c || badRange code c)
 
 -- a legal code's command; CMD_SYNC is the last
 unfoldable pub commandOf : ℕ → ℕ → Command

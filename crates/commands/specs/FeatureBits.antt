@@ -12,5 +12,6 @@ featuresOf w =
       asid16 = isSet 2 w;
       vmid16 = isSet 3 w;
       hyp = isSet 4 w;
+      ril = isSet 5 w;
       e2h = isSet 7 w;
     }

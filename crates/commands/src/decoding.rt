@@ -1,4 +1,4 @@
-// Document 01, Commands and their scopes, with document 02, T-05 and T-09: which commands are legal, and what they are.
+// Document 01, Commands and their scopes, with document 02, T-05, T-07 and T-09: which commands are legal, and what they are.
 use crate::Command;
 use crate::Decoded;
 use crate::Features;
@@ -14,7 +14,7 @@ ghost use Rattle.words.specs.Parts.{joined};
 ghost use Rattle.words.specs.Search.{placeOf};
 ghost use Rattle.words.specs.Ranges.{get};
 ghost use Rattle.commands.specs.Formats.{codes, streamBits, vmidBits, asidBits, leafBits, pageBits, isSetIn, targetOf};
-ghost use Rattle.commands.specs.Decoding.{featurePresent, parameterGood, commandOf, decode, decodeAt, isCounted, syncsOf};
+ghost use Rattle.commands.specs.Decoding.{featurePresent, badCs, badRange, parameterGood, commandOf, decode, decodeAt, isCounted, syncsOf};
 
 // The place of a code among the codes, or how many there are.
 fn place(code: u64) -> usize
@@ -68,10 +68,31 @@ fn feature_present(f: Features, code: u64) -> bool
     }
 }
 
+fn bad_cs(code: u64, lo: u64, hi: u64) -> bool
+    ensures { λ r. ⌜ r ≡ badCs code (joined lo hi) ⌝ }
+{
+    (code == 0x46) & (field(lo, hi, 13, 12) == 3)
+}
+
+// Document 02, T-07: one granule, of which TTL gives no level.
+fn bad_range(code: u64, lo: u64, hi: u64) -> bool
+    ensures { λ r. ⌜ r ≡ badRange code (joined lo hi) ⌝ }
+{
+    let by_address = (code == 0x12)
+        | (code == 0x13)
+        | (code == 0x22)
+        | (code == 0x23)
+        | (code == 0x2A);
+    let tg = field(lo, hi, 75, 74);
+    let ttl = field(lo, hi, 73, 72);
+    let one = (field(lo, hi, 16, 12) == 0) & (field(lo, hi, 24, 20) == 0);
+    by_address & !(tg == 0) & one & ((ttl == 0) | ((tg == 2) & (ttl == 1)))
+}
+
 fn parameter_good(code: u64, lo: u64, hi: u64) -> bool
     ensures { λ r. ⌜ r ≡ parameterGood code (joined lo hi) ⌝ }
 {
-    !((code == 0x46) & (field(lo, hi, 13, 12) == 3))
+    !(bad_cs(code, lo, hi) | bad_range(code, lo, hi))
 }
 
 fn stream(lo: u64, hi: u64) -> u64
@@ -110,6 +131,11 @@ fn target_of(lo: u64, hi: u64, page: u64) -> Target
     Target {
         leaf: leaf(lo, hi),
         page,
+        num: field(lo, hi, 16, 12),
+        scale: field(lo, hi, 24, 20),
+        tg: field(lo, hi, 75, 74),
+        ttl: field(lo, hi, 73, 72),
+        ttl128: field(lo, hi, 71, 71) == 1,
     }
 }
 

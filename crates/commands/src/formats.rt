@@ -1,15 +1,17 @@
-// Document 01, Commands and their scopes, with document 02, T-05: the bits that each code names.
+// Document 01, Commands and their scopes, with document 02, T-05 and T-07: the bits that each code names.
 use crate::Features;
+use crate::Shape;
 ghost use mathlib.Core.Path.{_≡_};
 ghost use Prim.Native.Nat.{_+_, _/_, _≤_, _<_};
 ghost use Rattle.words.specs.Parts.{part, joined};
-ghost use Rattle.commands.specs.Formats.{howMany, namedAt, MasksOf};
+ghost use Rattle.commands.specs.Formats.{howMany, shapeOf, namedAt, MasksOf};
+ghost use Rattle.commands.specs.Masks.{rangeMasks};
 ghost use Rattle.commands.specs.Decoding.{clean};
 
 // How many codes there are.
 pub const CODES: usize = 18;
 
-// The bits that may be set in a command's low and high word, a pair for each code, with every feature.
+// The bits that may be set in a command's low and high word, a pair for each code, with every feature and no range.
 const NAMED: [[u64; 2]; CODES] = [
     // 01
     [0xffff_ffff_ffff_fbff, 0xffff_ffff_ffff_ffff],
@@ -65,16 +67,44 @@ pub fn field(lo: u64, hi: u64, h: u64, l: u64) -> u64
     words::part(hi, h - 64, l - 64)
 }
 
+// What a command's range makes of its other bits.
+fn shape_of(lo: u64, hi: u64) -> Shape
+    ensures { λ r. ⌜ r ≡ shapeOf (joined lo hi) ⌝ }
+{
+    Shape {
+        ranged: !(field(lo, hi, 75, 74) == 0),
+        hinted: !(field(lo, hi, 73, 72) == 0),
+    }
+}
+
+// The bits of a range that a command with it may set: TTL128 only with a TTL.
+fn range_masks(f: Features, s: Shape, k: usize) -> [u64; 2]
+    ensures { λ r. ⌜ r ≡ rangeMasks f s k ⌝ }
+{
+    let by_address = (k == 8) | (k == 9) | (k == 12) | (k == 13) | (k == 15);
+    if !(by_address & f.ril & s.ranged) {
+        return [0, 0];
+    }
+    if s.hinted {
+        return [0x01f1_f000, 0xf80];
+    }
+    [0x01f1_f000, 0xf00]
+}
+
 // The masks of the k-th code under the features: without S2P the VMID of 10 to 13 is Reserved.
-fn masks(f: Features, k: usize) -> [u64; 2]
+fn masks(f: Features, s: Shape, k: usize) -> [u64; 2]
     requires { ⌜ k < howMany ⌝ }
-    ensures { λ r. ⌜ MasksOf (namedAt f k) r ⌝ }
+    ensures { λ r. ⌜ MasksOf (namedAt f s k) r ⌝ }
 {
     let named = NAMED[k];
+    let range = range_masks(f, s, k);
     if (NH_FIRST <= k) & (k <= NH_LAST) & !f.s2p {
-        return [named[0] & 0xffff_0000_ffff_ffff, named[1]];
+        return [
+            (named[0] & 0xffff_0000_ffff_ffff) | range[0],
+            named[1] | range[1],
+        ];
     }
-    named
+    [named[0] | range[0], named[1] | range[1]]
 }
 
 // Each bit that is set is one that the k-th code names.
@@ -82,6 +112,6 @@ pub fn clean(f: Features, k: usize, lo: u64, hi: u64) -> bool
     requires { ⌜ k < howMany ⌝ }
     ensures { λ r. ⌜ r ≡ clean f k (joined lo hi) ⌝ }
 {
-    let m = masks(f, k);
+    let m = masks(f, shape_of(lo, hi), k);
     (lo & m[0] == lo) & (hi & m[1] == hi)
 }

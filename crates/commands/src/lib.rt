@@ -17,12 +17,26 @@ pub struct Features {
     // Document 02, T-05: a feature, and a setting.
     pub hyp: bool,
     pub e2h: bool,
+    // Document 02, T-07.
+    pub ril: bool,
 }
 
 // What a command by address aims at: Leaf, and the address without its low 12 bits.
 pub struct Target {
     pub leaf: bool,
     pub page: u64,
+    // Document 02, T-07: a range from there on, unless TG is 0. TTL and TTL128 are hints.
+    pub num: u64,
+    pub scale: u64,
+    pub tg: u64,
+    pub ttl: u64,
+    pub ttl128: bool,
+}
+
+// Which of the range's fields a command uses, as far as its other bits depend on it: TG is not 0, TTL is not 0.
+pub struct Shape {
+    pub ranged: bool,
+    pub hinted: bool,
 }
 
 // A legal command, with its fields as they stand.

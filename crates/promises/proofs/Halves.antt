@@ -3,7 +3,7 @@
 -- Assumes nothing.
 use mathlib.Core.Path.{_≡_, refl}
 use mathlib.Core.Bool.{true, false, not, _&&_, _||_}
-use Prim.Native.Nat.{ℕ, _^_, _≤_}
+use Prim.Native.Nat.{ℕ, _^_, _≤_, max}
 use native.Mathlib.Omega.{arith}
 use lib.Dec.{eqb}
 use borrow.Author.Tests.{eqb-true}
@@ -16,7 +16,9 @@ use Rattle.row_forms.proofs.Halves.{stage-formed, low-only}
 use Rattle.commands.specs.declared.Features.{Features}
 use Rattle.commands.specs.declared.Target.{Target}
 use Rattle.commands.specs.declared.Command.the-variants.{TlbiNhVa, TlbiNhVaa}
-use Rattle.scopes.specs.Scopes.{spared, ofStage, stageOf, stageAt, addressOf, hasAsid, removes, inScope}
+use Rattle.scopes.specs.Ranges.{addressOf, firstOf, reaches}
+use Rattle.scopes.specs.Scopes.{spared, ofStage, stageOf, stageAt, hasAsid, removes, inScope}
+use Rattle.scopes.proofs.Ranges.{reaches-hit, first-from}
 use Rattle.scopes.proofs.Laws.{scoped}
 use Rattle.lookups.specs.declared.Wanted.the-variants.{Stage1, Stage2}
 use Rattle.lookups.specs.Lookups.{fits, answers}
@@ -36,8 +38,10 @@ module _ (row : Row) (old : wellFormedBy document01 row ≡ true) where
         let k = eqb (kind row) stage1 in
         let o = ofStage row stage1 in
         let v = eqb (vmid row) id in
-        let c = covers row (addressOf (target .page)) in
-        not-above stage1 (addressOf (target .page)) u (left k (isUnmarked row) (left o v (left (o && v) c e))) refl refl h (right (o && v) c e)
+        let c = reaches target row in
+        let hit = reaches-hit target row (right (o && v) c e) in
+        not-above stage1 (max (firstOf target) (row .w2)) u (left k (isUnmarked row) (left o v (left (o && v) c e))) refl refl
+        (omega (arith, first-from target (2 ^ 36) h, hit .from)) (hit .covered)
 
     -- no command that aims there removes it
     pub va-spares : (s : ℕ) → inScope f (TlbiNhVa id s target) row ≡ false

@@ -20,3 +20,4 @@ pub mod Filling
 pub mod Numbers
 pub mod Recorder
 pub mod Marks
+pub mod Ranges

@@ -59,10 +59,10 @@ removing f (Legal c) row = truth (inScope f c row)
 
 -- the features of document 01
 abbrev allYes : Features
-allYes = record { s1p = true; s2p = true; asid16 = true; vmid16 = true; hyp = false; e2h = false }
+allYes = record { s1p = true; s2p = true; asid16 = true; vmid16 = true; hyp = false; e2h = false; ril = false }
 
 abbrev noAsid16 : Features
-noAsid16 = record { s1p = true; s2p = true; asid16 = false; vmid16 = true; hyp = false; e2h = false }
+noAsid16 = record { s1p = true; s2p = true; asid16 = false; vmid16 = true; hyp = false; e2h = false; ril = false }
 
 -- a last-level STE row of a stream, with Config 4; a last-level stage 1 row of VMID 5 and ASID 0x1234
 abbrev steRow : ℕ → Row

@@ -3,17 +3,19 @@
 use mathlib.Core.Path.{_≡_, refl, ap}
 use mathlib.Core.Bool.{Bool, true, false, not, _&&_, _||_}
 use mathlib.Core.Logic.{_⊎_, inl, inr, ⊎-elim}
-use Prim.Native.Nat.{ℕ, _^_, _<_}
+use Prim.Native.Nat.{ℕ, _^_, _≤_, _<_}
 use lib.Dec.{eqb}
 use borrow.Author.Tests.{eqb-true, not-false}
-use Rattle.words.proofs.Truth.{left, right, and-true, either, or-left, or-right}
+use Rattle.words.proofs.Truth.{left, right, and-true, and-widened, either, or-left, or-right}
 use Rattle.rows.specs.declared.Row.{Row}
 use Rattle.rows.specs.Rows as rows
 use Rattle.commands.specs.declared.Features.{Features}
 use Rattle.commands.specs.declared.Target.{Target}
 use Rattle.commands.specs.declared.Command.{Command}
 use Rattle.commands.specs.declared.Command.the-variants.{CfgiSte, CfgiSteRange, TlbiNhAll, TlbiNhAsid, TlbiNhVa, TlbiNhVaa, TlbiEl2All, TlbiEl2Asid, TlbiEl2Va, TlbiEl2Vaa, TlbiS12Vmall, TlbiS2Ipa, TlbiNsnhAll}
-use Rattle.scopes.specs.Scopes.{spared, meets, one, steBlock, steOf, cdOf, ofStage, stageOf, stageAt, ownOf, ownAt, isE2h, hasAsid, addressOf, narrow, removes, tooWide, byRegime, inRegime, inScope}
+use Rattle.scopes.specs.Ranges.{firstOf, endOf, reaches}
+use Rattle.scopes.specs.Scopes.{spared, meets, one, steBlock, steOf, cdOf, ofStage, stageOf, stageAt, ownOf, ownAt, isE2h, hasAsid, narrow, removes, tooWide, byRegime, inRegime, inScope}
+use Rattle.scopes.proofs.Ranges.{wider-reaches}
 use Rattle.scopes.proofs.Laws.{scoped, is-scoped}
 use Rattle.scopes.proofs.Blocks.{range-31}
 
@@ -39,7 +41,7 @@ one-narrow a b e = ap not (left a b (not-false (a && b) e))
 
 at-of : (row : Row) (k v : ℕ) (t : Target) → stageAt row k v t ≡ true → stageOf row k v ≡ true
 unfolding stageAt
-at-of row k v t e = left (stageOf row k v) (rows.covers row (addressOf (t .page))) e
+at-of row k v t e = left (stageOf row k v) (reaches t row) e
 
 of-kind : (row : Row) (k v : ℕ) → stageOf row k v ≡ true → ofStage row k ≡ true
 unfolding stageOf
@@ -80,22 +82,22 @@ unfolding tooWide removes
 nh-all-contains-vaa f v t =
     within f (TlbiNhVaa v t) (TlbiNhAll v) refl (λ b. b) (λ row e. at-of row 2 v t (left (stageAt row 2 v t) (not (spared row (t .leaf))) e))
 
--- 13 contains 12, where its Leaf is 0 or the same
+-- 13 contains 12, where its range contains the other's and its Leaf is 0 or the same
 spared-less : (row : Row) (leaf leaf′ : Bool) → (leaf′ ≡ false) ⊎ (leaf′ ≡ leaf) → not (spared row leaf) ≡ true → not (spared row leaf′) ≡ true
 spared-less row leaf leaf′ h e = ⊎-elim (λ z. rw z) (λ s. rw s e) h
 
-same-place : (row : Row) (k v : ℕ) (t t′ : Target) → t′ .page ≡ t .page → stageAt row k v t ≡ true → stageAt row k v t′ ≡ true
+wider-at : (row : Row) (k v : ℕ) (t t′ : Target) → firstOf t′ ≤ firstOf t → endOf t ≤ endOf t′ → stageAt row k v t ≡ true → stageAt row k v t′ ≡ true
 unfolding stageAt
-same-place row k v t t′ p e = rw p e
+wider-at row k v t t′ p q e = and-widened (stageOf row k v) (reaches t row) (wider-reaches t t′ row p q) e
 
-pub vaa-contains-va : (f : Features) (v a : ℕ) (t t′ : Target) → t′ .page ≡ t .page → (t′ .leaf ≡ false) ⊎ (t′ .leaf ≡ t .leaf)
+pub vaa-contains-va : (f : Features) (v a : ℕ) (t t′ : Target) → firstOf t′ ≤ firstOf t → endOf t ≤ endOf t′ → (t′ .leaf ≡ false) ⊎ (t′ .leaf ≡ t .leaf)
     → Within f (TlbiNhVa v a t) (TlbiNhVaa v t′)
 unfolding tooWide removes
-vaa-contains-va f v a t t′ p h =
+vaa-contains-va f v a t t′ p q h =
     within f (TlbiNhVa v a t) (TlbiNhVaa v t′) refl (one-narrow (narrow (f .vmid16) v) (narrow (f .asid16) a))
     (λ row e. let any = hasAsid row a || rows.isGlobal row in
     let first = left (stageAt row 2 v t && any) (not (spared row (t .leaf))) e in
-    and-true (same-place row 2 v t t′ p (left (stageAt row 2 v t) any first))
+    and-true (wider-at row 2 v t t′ p q (left (stageAt row 2 v t) any first))
     (spared-less row (t .leaf) (t′ .leaf) h (right (stageAt row 2 v t && any) (not (spared row (t .leaf))) e)))
 
 -- 04 with Range 31 contains every 03
@@ -112,7 +114,7 @@ range-contains-ste f s t leaf h row e =
 -- Document 02, T-05, at either E2H: 20 contains 21
 own-at-of : (row : Row) (t : Target) → ownAt row t ≡ true → ownOf row ≡ true
 unfolding ownAt
-own-at-of row t e = left (ownOf row) (rows.covers row (addressOf (t .page))) e
+own-at-of row t e = left (ownOf row) (reaches t row) e
 
 pub el2-all-contains-asid : (f : Features) (a : ℕ) → Within f (TlbiEl2Asid a) TlbiEl2All
 unfolding tooWide removes

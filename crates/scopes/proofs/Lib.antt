@@ -1,3 +1,4 @@
+pub mod Ranges
 pub mod Laws
 pub mod OtherKinds
 pub mod Cases

@@ -13,7 +13,8 @@ use Rattle.commands.specs.declared.Features.{Features}
 use Rattle.commands.specs.declared.Target.{Target}
 use Rattle.commands.specs.declared.Command.{Command}
 use Rattle.commands.specs.declared.Command.the-variants.{PrefetchConfig, PrefetchAddr, CfgiSte, CfgiSteRange, CfgiCd, CfgiCdAll, TlbiNhAll, TlbiNhAsid, TlbiNhVa, TlbiNhVaa, TlbiEl2All, TlbiEl2Asid, TlbiEl2Va, TlbiEl2Vaa, TlbiS12Vmall, TlbiS2Ipa, TlbiNsnhAll, Sync}
-use Rattle.scopes.specs.Scopes.{spared, ofStage, stageOf, stageAt, ownOf, ownAt, isE2h, addressOf, hasAsid, removes, inScope}
+use Rattle.scopes.specs.Ranges.{reaches}
+use Rattle.scopes.specs.Scopes.{spared, ofStage, stageOf, stageAt, ownOf, ownAt, isE2h, hasAsid, removes, inScope}
 use Rattle.scopes.specs.Kinds.{isAbout}
 use Rattle.scopes.proofs.Laws.{scoped}
 use Rattle.scopes.proofs.OtherKinds.{other-kind}
@@ -47,7 +48,7 @@ module _ (row : Row) where
 
   unmarked-at : (kind v : ℕ) (t : Target) → stageAt row kind v t ≡ true → rows.isUnmarked row ≡ true
   unfolding stageAt
-  unmarked-at kind v t e = unmarked-of kind v (left (stageOf row kind v) (rows.covers row (addressOf (t .page))) e)
+  unmarked-at kind v t e = unmarked-of kind v (left (stageOf row kind v) (reaches t row) e)
 
   marked-of : ownOf row ≡ true → rows.isUnmarked row ≡ false
   unfolding ownOf
@@ -55,7 +56,7 @@ module _ (row : Row) where
 
   marked-at : (t : Target) → ownAt row t ≡ true → rows.isUnmarked row ≡ false
   unfolding ownAt
-  marked-at t e = marked-of (left (ownOf row) (rows.covers row (addressOf (t .page))) e)
+  marked-at t e = marked-of (left (ownOf row) (reaches t row) e)
 
   -- 20 to 23 take rows with a mark
   own-marked : (c : Command) → isOwn c ≡ true → removes c row ≡ true → rows.isUnmarked row ≡ false

@@ -1,4 +1,4 @@
--- Document 01, Commands and their scopes, with document 02, T-05: which rows a legal command removes.
+-- Document 01, Commands and their scopes, with document 02, T-05 and T-07: which rows a legal command removes.
 -- Assumes nothing.
 use Prim.Native.Nat.{ℕ, _+_, _*_, _/_, _^_, max}
 use mathlib.Core.Bool.{Bool, true, false, not, _&&_, _||_}
@@ -12,6 +12,7 @@ use Rattle.commands.specs.declared.Target.{Target}
 use Rattle.commands.specs.declared.Command.{Command}
 use Rattle.commands.specs.declared.Command.the-variants.{PrefetchConfig, PrefetchAddr, CfgiSte, CfgiSteRange, CfgiCd, CfgiCdAll, TlbiNhAll, TlbiNhAsid, TlbiNhVa, TlbiNhVaa, TlbiEl2All, TlbiEl2Asid, TlbiEl2Va, TlbiEl2Vaa, TlbiS12Vmall, TlbiS2Ipa, TlbiNsnhAll, Sync}
 use Rattle.scopes.specs.declared.Block.{Block}
+use Rattle.scopes.specs.Ranges.{reaches}
 
 -- Leaf 1 spares rows that are not last-level
 abbrev pub spared : Row → Bool → Bool
@@ -67,16 +68,12 @@ ownOf row = eqb (rows.kind row) rows.stage1 && not (rows.isUnmarked row)
 abbrev pub isE2h : Row → Bool
 isE2h row = eqb (rows.mark row) rows.el2E2h
 
--- the address that a command's page names: at most 52 bits, and 12 zeros below them
-abbrev pub addressOf : ℕ → ℕ
-addressOf page = part 51 0 page * 2 ^ 12
-
--- rows of a stage and VMID that cover what a command aims at
+-- rows of a stage and VMID that a command by address reaches
 unfoldable pub stageAt : Row → ℕ → ℕ → Target → Bool
-stageAt row kind vmid target = stageOf row kind vmid && rows.covers row (addressOf (target .page))
+stageAt row kind vmid target = stageOf row kind vmid && reaches target row
 
 unfoldable pub ownAt : Row → Target → Bool
-ownAt row target = ownOf row && rows.covers row (addressOf (target .page))
+ownAt row target = ownOf row && reaches target row
 
 abbrev pub hasAsid : Row → ℕ → Bool
 hasAsid row asid = eqb (rows.asid row) asid

@@ -1,4 +1,4 @@
-// Document 01, Commands and their scopes, with document 02, T-05: which rows a legal command removes.
+// Document 01, Commands and their scopes, with document 02, T-05 and T-07: which rows a legal command removes.
 use commands::Command;
 use commands::Features;
 use commands::Target;
@@ -6,11 +6,12 @@ use rows::Row;
 use rows::kinds;
 use rows::marks;
 ghost use mathlib.Core.Path.{_≡_};
-ghost use Prim.Native.Nat.{_/_, _^_, _<_};
+ghost use Prim.Native.Nat.{_/_, _^_, _≤_, _<_};
 ghost use lib.Dec.{eqb};
 ghost use Rattle.rows.specs.Rows.{isGlobal};
 ghost use Rattle.commands.specs.declared.Command.the-variants.{CfgiSte, CfgiSteRange, CfgiCd, CfgiCdAll, TlbiNhAll, TlbiNhAsid, TlbiNhVa, TlbiNhVaa, TlbiEl2All, TlbiEl2Asid, TlbiEl2Va, TlbiEl2Vaa, TlbiS12Vmall, TlbiS2Ipa, TlbiNsnhAll};
-ghost use Rattle.scopes.specs.Scopes.{spared, meets, steBlock, openBits, steOf, cdOf, cdAt, stageOf, ownOf, isE2h, addressOf, stageAt, ownAt, hasAsid, narrow, removes, idle, regime, byRegime, inRegime, inScope};
+ghost use Rattle.scopes.specs.Scopes.{spared, meets, steBlock, openBits, steOf, cdOf, cdAt, stageOf, ownOf, isE2h, stageAt, ownAt, hasAsid, narrow, removes, idle, regime, byRegime, inRegime, inScope};
+ghost use Rattle.scopes.specs.Ranges.{addressOf, tgOf, numOf, scaleOf, granules, granuleOf, firstOf, lengthOf, reaches};
 ghost use Rattle.scopes.specs.Kinds.{isAbout};
 
 // The 2^span streams that are equal to one of them above their lowest span bits.
@@ -102,7 +103,7 @@ fn own_of(row: Row) -> bool
 fn own_at(row: Row, target: Target) -> bool
     ensures { λ r. ⌜ r ≡ ownAt row target ⌝ }
 {
-    own_of(row) & rows::covers(row, address_of(target.page))
+    own_of(row) & reaches(target, row)
 }
 
 fn is_e2h(row: Row) -> bool
@@ -117,10 +118,48 @@ fn address_of(page: u64) -> u64
     words::part(page, 51, 0) * 4096
 }
 
+// Document 02, T-07: the granule of TG. A single address is a granule of one byte.
+fn granule_of(target: Target) -> u64
+    ensures { λ r. ⌜ (r ≡ granuleOf target) × (r ≤ 16) ⌝ }
+{
+    match words::part(target.tg, 1, 0) {
+        0 => 0,
+        1 => 12,
+        2 => 14,
+        _ => 16,
+    }
+}
+
+fn first_of(target: Target) -> u64
+    ensures { λ r. ⌜ r ≡ firstOf target ⌝ }
+{
+    let granule = words::power(granule_of(target));
+    address_of(target.page) / granule * granule
+}
+
+// At most 2^5 * 2^31 * 2^16 bytes. Where they end need not fit a word, so it is not formed.
+fn length_of(target: Target) -> u64
+    ensures { λ r. ⌜ (r ≡ lengthOf target) × (0 < r) ⌝ }
+{
+    if words::part(target.tg, 1, 0) == 0 {
+        return 1;
+    }
+    let n = words::part(target.num, 4, 0) + 1;
+    n * words::power(words::part(target.scale, 4, 0)) * words::power(granule_of(target))
+}
+
+// Whether some byte of the row's span is one that the command aims at.
+fn reaches(target: Target, row: Row) -> bool
+    ensures { λ r. ⌜ r ≡ reaches target row ⌝ }
+{
+    let size = words::power(rows::span_of(row));
+    words::overlap(first_of(target), length_of(target), row.w2, size)
+}
+
 fn stage_at(row: Row, kind: u64, vmid: u64, target: Target) -> bool
     ensures { λ r. ⌜ r ≡ stageAt row kind vmid target ⌝ }
 {
-    stage_of(row, kind, vmid) & rows::covers(row, address_of(target.page))
+    stage_of(row, kind, vmid) & reaches(target, row)
 }
 
 fn has_asid(row: Row, asid: u64) -> bool

@@ -9,4 +9,6 @@ pub const VMID16: u64 = 8;
 
 pub const HYP: u64 = 16;
 
-pub const ALL: u64 = 31;
+pub const RIL: u64 = 32;
+
+pub const ALL: u64 = 63;

@@ -1,6 +1,7 @@
 // The commands that Linux guests sent, from data/: how many of each code are legal, and how many are not, by reason.
 use crate::features::ASID16;
 use crate::features::HYP;
+use crate::features::RIL;
 use crate::features::S1P;
 use crate::features::S2P;
 use crate::features::VMID16;
@@ -16,19 +17,22 @@ ghost use lib.ListN.{length};
 // Commands read at a time, and how often: enough for the longest file.
 const CHUNKS: usize = 64;
 
-// Behind the counts by code and verdict: how many commands name an address, and one of the upper half.
+// Behind the counts by code and verdict: how many commands name an address, one of the upper half, and a range.
 const ADDRESSES: usize = 1280;
 
 const UPPER: usize = 1281;
 
-const COUNTS: usize = 1282;
+const RANGES: usize = 1282;
+
+const COUNTS: usize = 1283;
 
 pub fn all() {
-    let stage1 = commands::features_of(S1P + ASID16);
-    let stage2 = commands::features_of(S2P + VMID16);
-    let host = commands::features_of(S1P + ASID16 + HYP);
+    let single = commands::features_of(S1P + ASID16);
+    let stage1 = commands::features_of(S1P + ASID16 + RIL);
+    let stage2 = commands::features_of(S2P + VMID16 + RIL);
+    let host = commands::features_of(S1P + ASID16 + HYP + RIL);
     say(b"linux-6.12-no-ril\n");
-    guest(b"linux-6.12-no-ril.bin", stage1);
+    guest(b"linux-6.12-no-ril.bin", single);
     say(b"linux-6.12\n");
     guest(b"linux-6.12.bin", stage1);
     say(b"linux-6.1-stage2\n");
@@ -48,14 +52,16 @@ fn guest(path: &[u8], f: Features) {
     chunks(fd, f, &mut counts);
     libc::close(fd);
     told(&counts);
-    told_addresses(counts[ADDRESSES], counts[UPPER]);
+    told_addresses(counts[ADDRESSES], counts[UPPER], counts[RANGES]);
 }
 
-fn told_addresses(named: u64, upper: u64) {
+fn told_addresses(named: u64, upper: u64, ranges: u64) {
     say(b"  addresses: ");
     number(named);
     say(b", of the upper half ");
     number(upper);
+    say(b", ranges ");
+    number(ranges);
     say(b"\n");
 }
 
@@ -109,6 +115,9 @@ fn count_address(w: u64, counts: &mut [u64; COUNTS]) {
     if w >> 52 == 0xfff {
         bump(&mut *counts, UPPER);
     }
+    if words::part(w, 11, 10) != 0 {
+        bump(&mut *counts, RANGES);
+    }
 }
 
 // 0 for a legal command, then the reasons in their order.
@@ -127,7 +136,7 @@ fn column_of(d: Decoded) -> usize
 }
 
 fn bump(counts: &mut [u64; COUNTS], at: usize)
-    requires { ⌜ at < 1282 ⌝ }
+    requires { ⌜ at < 1283 ⌝ }
 {
     counts[at] = std::num::wrapping_add_u64(counts[at], 1);
 }

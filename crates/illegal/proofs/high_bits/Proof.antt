@@ -6,10 +6,10 @@ use Rattle.illegal.proofs.high_bits.Statement.{statement}
 use Rattle.illegal.proofs.high_bits.Tie as tie
 
 abbrev Inv-loop : tie.InvT-loop
-Inv-loop f code hi i₀ i = i ≤ 64
+Inv-loop f code range hi i₀ i = i ≤ 64
 
 abbrev μ-loop : tie.MeasureT-loop
-μ-loop f code hi i₀ i = 64 - i
+μ-loop f code range hi i₀ i = 64 - i
 
 pub high-bits-spec : {M : Type 1} → statement M
 high-bits-spec =

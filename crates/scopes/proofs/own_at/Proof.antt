@@ -7,7 +7,7 @@ use Rattle.scopes.proofs.own_at.Tie as tie
 
 returns : tie.Need-returns
 unfolding ownAt
-returns c = rw (c .covers .ensures, c .before .address-of .ensures, c .before .before .own-of .ensures)
+returns c = rw (c .reaches .ensures, c .before .own-of .ensures)
 
 pub own-at-spec : {M : Type 1} → statement M
-own-at-spec = tie.close (tie.spec (λ c κs. search needs) (λ c κs. search needs) (λ c κs. search needs) returns)
+own-at-spec = tie.close (tie.spec (λ c κs. search needs) (λ c κs. search needs) returns)

@@ -7,7 +7,7 @@ use Rattle.scopes.proofs.stage_at.Tie as tie
 
 returns : tie.Need-returns
 unfolding stageAt
-returns c = rw (c .covers .ensures, c .before .address-of .ensures, c .before .before .stage-of .ensures)
+returns c = rw (c .reaches .ensures, c .before .stage-of .ensures)
 
 pub stage-at-spec : {M : Type 1} → statement M
-stage-at-spec = tie.close (tie.spec (λ c κs. search needs) (λ c κs. search needs) (λ c κs. search needs) returns)
+stage-at-spec = tie.close (tie.spec (λ c κs. search needs) (λ c κs. search needs) returns)

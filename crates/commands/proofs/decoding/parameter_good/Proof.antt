@@ -7,7 +7,7 @@ use Rattle.commands.proofs.decoding.parameter_good.Tie as tie
 
 returns : tie.Need-returns
 unfolding parameterGood
-returns c = rw (c .field .ensures)
+returns c = rw (c .bad-range .ensures, c .before .bad-cs .ensures)
 
 pub parameter-good-spec : {M : Type 1} → statement M
-parameter-good-spec = tie.close (tie.spec (λ c κs. search needs) returns)
+parameter-good-spec = tie.close (tie.spec (λ c κs. search needs) (λ c κs. search needs) returns)

@@ -9,4 +9,4 @@ returns : tie.Need-returns
 returns c = search tests
 
 pub clean-spec : {M : Type 1} → statement M
-clean-spec = tie.close (tie.spec (λ c κs. search needs) (λ c. search needs) (λ c. search needs) returns)
+clean-spec = tie.close (tie.spec (λ c κs. search needs) (λ c κs. search needs) (λ c. search needs) (λ c. search needs) returns)

@@ -6,10 +6,10 @@ use Rattle.verdicts.proofs.formats.reserved_bits.Statement.{statement}
 use Rattle.verdicts.proofs.formats.reserved_bits.Tie as tie
 
 abbrev Inv-loop : tie.InvT-loop
-Inv-loop f c i₀ within₀ i within = (8 ≤ i) × (i ≤ 128)
+Inv-loop f c hi i₀ within₀ i within = (8 ≤ i) × (i ≤ 128)
 
 abbrev μ-loop : tie.MeasureT-loop
-μ-loop f c i₀ within₀ i within = i
+μ-loop f c hi i₀ within₀ i within = i
 
 pub reserved-bits-spec : {M : Type 1} → statement M
 reserved-bits-spec =
