@@ -3,9 +3,8 @@
 use mathlib.Core.Path.{_≡_}
 use mathlib.Core.Bool.{Bool, true}
 use mathlib.Core.List.{List, [], _∷_}
-use Prim.Native.Nat.{ℕ, _+_, _-_, _*_, _≤_}
+use Prim.Native.Nat.{ℕ, _-_, _≤_}
 use lib.Dec.{eqb}
-use lib.ListN.{length, set}
 use Rattle.words.specs.Choice.{pick}
 use Rattle.words.specs.Ranges.{Range}
 use Rattle.words.specs.Search.{lowest}
@@ -22,8 +21,7 @@ use Rattle.commands.specs.declared.Reason.{Reason}
 use Rattle.commands.specs.declared.Decoded.{Decoded}
 use Rattle.commands.specs.declared.Decoded.the-variants.{Legal, Illegal}
 use Rattle.commands.specs.Decoding.{decodeAt, syncsOf}
-use Rattle.scopes.specs.Scopes.{inScope}
-use Rattle.image.specs.Image.{rowsIn, controlOf, rowAt}
+use Rattle.memory.specs.Memory.{Memory, Place, Control, Word0, controlOf, rowsIn, scopedAt, put, Whole}
 use Rattle.due.specs.declared.Raising.{Raising}
 use Rattle.due.specs.declared.Stepped.{Stepped}
 use Rattle.due.specs.declared.Stepped.the-variants.{Removed, Consumed, DidRaise}
@@ -37,14 +35,10 @@ pub data What : Type 0 where
 -- nothing is due, or one store: its place, its word, and what it does
 pub data Due : Type 0 where
   Rests : Rest → Due
-  Stores : ℕ → ℕ → What → Due
-
--- row i is in the command's scope
-unfoldable pub scopedAt : Features → Command → List ℕ → ℕ → Bool
-scopedAt f command m i = inScope f command (rowAt m i)
+  Stores : Place → ℕ → What → Due
 
 -- the lowest row in scope, of the n from row i on
-abbrev pub scan : Features → Command → List ℕ → ℕ → ℕ → Found
+abbrev pub scan : Features → Command → Memory → ℕ → ℕ → Found
 scan f command m n i = lowest (scopedAt f command m) n i
 
 -- the control word after a command is consumed, and the parts of it that this touches: RD goes forward, and a CMD_SYNC with
@@ -59,48 +53,48 @@ consumes = control.rdBits ∷ control.pendingBits ∷ []
 
 -- a legal command: the lowest row in scope goes; once there is none, the command is consumed
 abbrev pub byScan : Command → ℕ → Found → Due
-byScan command w (At i) = Stores (4 * i + 1) 0 Remove
-byScan command w Nothing = Stores 0 (afterCommand (Legal command) w) (Consume (syncsOf (Legal command)))
+byScan command w (At i) = Stores (Word0 i) 0 Remove
+byScan command w Nothing = Stores Control (afterCommand (Legal command) w) (Consume (syncsOf (Legal command)))
 
 -- Document 02, T-09: the error tells the command's reason and its slot
 abbrev pub raisingAt : Reason → ℕ → Raising
 raisingAt why w = record { why = why; slot = control.slot w }
 
 -- the command at RD; an illegal one raises the error
-unfoldable pub dueFor : Features → Decoded → List ℕ → Due
+unfoldable pub dueFor : Features → Decoded → Memory → Due
 dueFor f (Legal command) m = byScan command (controlOf m) (scan f command m (rowsIn m) 0)
-dueFor f (Illegal why) m = Stores 0 (control-stores.raised (controlOf m)) (Raise (raisingAt why (controlOf m)))
+dueFor f (Illegal why) m = Stores Control (control-stores.raised (controlOf m)) (Raise (raisingAt why (controlOf m)))
 
-abbrev pub atRd : Features → List ℕ → List ℕ → Decoded
+abbrev pub atRd : Features → List ℕ → Memory → Decoded
 atRd f queue m = decodeAt f queue (control.slot (controlOf m))
 
 abbrev pub gate : Standing → Due → Due
 gate (Resting rest) d = Rests rest
 gate Open d = d
 
-unfoldable pub due : Features → List ℕ → List ℕ → Due
+unfoldable pub due : Features → List ℕ → Memory → Due
 due f queue m = gate (control.standing (controlOf m)) (dueFor f (atRd f queue m) m)
 
 -- the memory after the store
-abbrev pub made : Due → List ℕ → List ℕ
+abbrev pub made : Due → Memory → Memory
 made (Rests rest) m = m
-made (Stores i v what) m = set m i v
+made (Stores place v what) m = put m place v
 
 -- A step answers which store it made. It is handed the place where its scan goes on: no row below it is in scope.
-abbrev pub storeOf : Decoded → List ℕ → Stepped → Due
-storeOf d m (Removed i) = Stores (4 * i + 1) 0 Remove
-storeOf d m Consumed = Stores 0 (afterCommand d (controlOf m)) (Consume (syncsOf d))
-storeOf d m (DidRaise told) = Stores 0 (control-stores.raised (controlOf m)) (Raise told)
+abbrev pub storeOf : Decoded → Memory → Stepped → Due
+storeOf d m (Removed i) = Stores (Word0 i) 0 Remove
+storeOf d m Consumed = Stores Control (afterCommand d (controlOf m)) (Consume (syncsOf d))
+storeOf d m (DidRaise told) = Stores Control (control-stores.raised (controlOf m)) (Raise told)
 
-abbrev pub noneBelow : Features → Decoded → List ℕ → ℕ → Type 0
+abbrev pub noneBelow : Features → Decoded → Memory → ℕ → Type 0
 noneBelow f (Legal command) m from = scan f command m (rowsIn m - from) from ≡ scan f command m (rowsIn m) 0
 noneBelow f (Illegal why) m from = from ≡ 0
 
-pub record Ready (f : Features) (d : Decoded) (from : ℕ) (m : List ℕ) : Type 0 where
-  pub room : 4 * rowsIn m + 1 ≤ length m
+pub record Ready (f : Features) (d : Decoded) (from : ℕ) (m : Memory) : Type 0 where
+  pub room : Whole m
   pub high : from ≤ rowsIn m
   pub none-below : noneBelow f d m from
 
-pub record Made (f : Features) (d : Decoded) (m m′ : List ℕ) (r : Stepped) : Type 0 where
+pub record Made (f : Features) (d : Decoded) (m m′ : Memory) (r : Stepped) : Type 0 where
   pub is-due : dueFor f d m ≡ storeOf d m r
   pub stored : m′ ≡ made (storeOf d m r) m

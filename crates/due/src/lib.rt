@@ -7,8 +7,8 @@ use words::Found;
 ghost use mathlib.Core.Path.{_≡_};
 ghost use Prim.Native.Nat.{_+_, _*_, _-_, _≤_};
 ghost use lib.ListN.{length};
-ghost use Rattle.image.specs.Image.{rowsIn};
-ghost use Rattle.due.specs.Due.{scopedAt, scan, afterCommand, Ready, Made};
+ghost use Rattle.memory.specs.Memory.{rowsIn, scopedAt, Whole};
+ghost use Rattle.due.specs.Due.{scan, afterCommand, Ready, Made};
 ghost use Rattle.commands.specs.declared.Decoded.the-variants.{Legal};
 
 // Document 02, T-09: what a raised error tells: why the command is illegal, and the slot that it is in.
@@ -33,7 +33,7 @@ fn scoped_at(kept: &[u64], f: Features, c: Command, i: usize) -> bool
 
 // The lowest row from `from` on that is in scope.
 fn find_from(kept: &[u64], f: Features, c: Command, from: usize) -> Found
-    requires { ⌜ (4 * rowsIn (now kept) + 1 ≤ length (now kept)) × (from ≤ rowsIn (now kept)) ⌝ }
+    requires { ⌜ Whole (now kept) × (from ≤ rowsIn (now kept)) ⌝ }
     ensures { λ r. ⌜ r ≡ scan f c (now (kept .entry)) (rowsIn (now (kept .entry)) - from) from ⌝ }
 {
     let rows = kept.len() / 4;

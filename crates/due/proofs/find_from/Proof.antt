@@ -4,8 +4,8 @@ use mathlib.Core.Path.{refl, sym, _∙_}
 use Prim.Native.Nat.{_-_}
 use borrow.Author.Needs.{needs}
 use Rattle.words.proofs.Search.{Searching, finds, passes, finds-none}
-use Rattle.image.specs.Image.{rowsIn}
-use Rattle.due.specs.Due.{scopedAt, scan}
+use Rattle.memory.specs.Memory.{rowsIn, scopedAt}
+use Rattle.due.specs.Due.{scan}
 use Rattle.due.proofs.Scans.{idle-finds-nothing}
 use Rattle.due.proofs.find_from.Statement.{statement}
 use Rattle.due.proofs.find_from.Tie as tie

@@ -1,6 +1,6 @@
 -- `due::scoped_at` meets its contract.
 -- Assumes nothing.
-use Rattle.due.specs.Due.{scopedAt}
+use Rattle.memory.specs.Memory.{scopedAt}
 use borrow.Author.Needs.{needs}
 use Rattle.due.proofs.scoped_at.Statement.{statement}
 use Rattle.due.proofs.scoped_at.Tie as tie

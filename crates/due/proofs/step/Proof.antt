@@ -4,7 +4,7 @@ use Prim.Native.Nat.{_<_, _+_, _*_}
 use native.Mathlib.Omega.{arith}
 use denote.Ref.{now}
 use borrow.Author.Needs.{needs}
-use Rattle.image.specs.Image.{rowsIn}
+use Rattle.memory.specs.Memory.{rowsIn}
 use Rattle.due.proofs.Asked.{row-lt, made-removed, made-consumed, made-raised}
 use Rattle.due.proofs.step.Statement.{statement}
 use Rattle.due.proofs.step.Tie as tie
