@@ -18,7 +18,7 @@ use Rattle.scopes.proofs.Laws.{scoped, empty-spared, idle-spares}
 use Rattle.image.specs.Image as image
 use Rattle.image.proofs.Checks as checks
 use Rattle.image.proofs.AfterStores as after
-use Rattle.memory.specs.Memory.{Memory, controlOf, rowsIn, usedRows, word0, scopedAt, Place, Control, Word0, put, stored, cleared, Whole, Untouched}
+use Rattle.memory.specs.Memory.{Memory, controlOf, rowsIn, usedRows, word0, scopedAt, Place, Control, Word0, put, stored, cleared, Whole, SameSize, Untouched}
 
 -- memory of n rows that refusals 1 to 3 accept
 abbrev pub Accepts : Memory → ℕ → Type 0
@@ -60,6 +60,12 @@ module _ (m : Memory) (w : Whole m) where
   cleared-whole i = let l = length-set m (4 * i + 1) 0 in omega (arith, w, l, ap (λ (k : ℕ). k / 4) l)
 
 module _ (m : Memory) where
+  pub size-stored : (v : ℕ) → SameSize (stored m v) m
+  size-stored v = length-set m 0 v
+
+  pub size-cleared : (i : ℕ) → SameSize (cleared m i) m
+  size-cleared i = length-set m (4 * i + 1) 0
+
   pub control-cleared : (i : ℕ) → controlOf (cleared m i) ≡ controlOf m
   control-cleared i = after.cleared-control m i
 

@@ -53,7 +53,10 @@ cleared m i = put m (Word0 i) 0
 abbrev pub Whole : Memory → Type 0
 Whole m = 4 * rowsIn m + 1 ≤ length m
 
+abbrev pub SameSize : Memory → Memory → Type 0
+SameSize m m′ = length m ≡ length m′
+
 -- every word but the control word and word 0 of each of n rows is as it was
 pub record Untouched (n : ℕ) (m m′ : Memory) : Type 0 where
   pub others : (p : ℕ) → (p ≡ 0 → ⊥) → ((i : ℕ) → i < n → p ≡ 4 * i + 1 → ⊥) → getD m′ p 0 ≡ getD m p 0
-  pub long : length m′ ≡ length m
+  pub long : SameSize m′ m

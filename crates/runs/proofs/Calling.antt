@@ -14,15 +14,17 @@ use Rattle.commands.specs.declared.Features.{Features}
 use Rattle.image.specs.declared.Refusal.{Refusal}
 use Rattle.image.specs.declared.Checked.{Checked}
 use Rattle.image.specs.declared.Checked.the-variants.{Accepted, Refused as NotAccepted}
-use Rattle.image.specs.Image.{check, rowsIn, controlOf}
-use Rattle.image.proofs.Checks.{Accepts, says, rows-are}
+use Rattle.image.specs.Image.{check}
+use Rattle.memory.specs.Memory.{Memory, controlOf}
+use Rattle.memory.proofs.Laws.{accepted-whole, rows-are}
+use Rattle.image.proofs.Checks.{says}
 use Rattle.runs.specs.declared.Ran.{Ran}
 use Rattle.runs.specs.declared.RunRefusal.the-variants.{Image, BadQueue}
 use Rattle.runs.specs.declared.RunAnswer.the-variants.{Refused, Done}
 use Rattle.runs.specs.Running.{Does, Fit}
 use Rattle.runs.specs.Call.{queueGood, call}
 
-module _ (f : Features) (queue : List ℕ) (k : ℕ) (m : List ℕ) where
+module _ (f : Features) (queue : List ℕ) (k : ℕ) (m : Memory) where
   pub refuses-image : (why : Refusal) → check m ≡ NotAccepted why → Gives (call f queue k m) m (Refused (Image why))
   unfolding call
   refuses-image why e = record { answers = rw e; leaves = rw e }
@@ -32,7 +34,7 @@ module _ (f : Features) (queue : List ℕ) (k : ℕ) (m : List ℕ) where
     unfolding call
     refuses-queue q = record { answers = rw (e, q); leaves = rw (e, q) }
 
-    pub does : {m′ : List ℕ} {r : Ran} → queueGood queue m ≡ true → Does f queue k m m′ r → Gives (call f queue k m) m′ (Done r)
+    pub does : {m′ : Memory} {r : Ran} → queueGood queue m ≡ true → Does f queue k m m′ r → Gives (call f queue k m) m′ (Done r)
     unfolding call
     does q d = record { answers = rw (e, q) (ap Done (d .answers)); leaves = rw (e, q) (d .leaves) }
 
@@ -42,10 +44,9 @@ module _ (f : Features) (queue : List ℕ) (k : ℕ) (m : List ℕ) where
     -- an accepted image and its queue fit a run
     pub fits-run : queueGood queue m ≡ true → Fit queue m
     fits-run q =
-        let size = says m .accepted n e .size in
-        let rows = rows-are m n size in
+        let a = says m .accepted n e in
         record {
-          room = omega (arith, size .words, rows);
-          few = rw rows (size .few);
+          room = accepted-whole m n a;
+          few = rw (rows-are m n a) (a .size .few);
           slots = eqb-true (length queue) (16 * 2 ^ control.log2size (controlOf m)) q;
         }

@@ -10,6 +10,7 @@ use Rattle.words.specs.Outcomes.{Outcome, with}
 use Rattle.control.specs.Control as control
 use Rattle.commands.specs.declared.Features.{Features}
 use Rattle.image.specs.Image as image
+use Rattle.memory.specs.Memory.{Memory, controlOf}
 use Rattle.runs.specs.declared.RunRefusal.{RunRefusal}
 use Rattle.runs.specs.declared.RunRefusal.the-variants.{Image, BadQueue}
 use Rattle.runs.specs.declared.RunAnswer.{RunAnswer}
@@ -22,16 +23,16 @@ number (Image why) = image.number why
 number BadQueue = 4
 
 -- 16 bytes for each of 2 ^ LOG2SIZE slots
-abbrev pub queueGood : List ℕ → List ℕ → Bool
-queueGood queue m = eqb (length queue) (16 * 2 ^ control.log2size (image.controlOf m))
+abbrev pub queueGood : List ℕ → Memory → Bool
+queueGood queue m = eqb (length queue) (16 * 2 ^ control.log2size (controlOf m))
 
-abbrev pub refused : RunRefusal → List ℕ → Outcome (List ℕ) RunAnswer
+abbrev pub refused : RunRefusal → Memory → Outcome Memory RunAnswer
 refused why m = with (Refused why) m
 
-abbrev pub done : Out (List ℕ) → Outcome (List ℕ) RunAnswer
+abbrev pub done : Out Memory → Outcome Memory RunAnswer
 done o = with (Done (o .ran)) (o .memory)
 
-unfoldable pub call : Features → List ℕ → ℕ → List ℕ → Outcome (List ℕ) RunAnswer
+unfoldable pub call : Features → List ℕ → ℕ → Memory → Outcome Memory RunAnswer
 call f queue k m =
     image.checked (image.check m) (λ why. refused (Image why) m)
     (λ n. pick (not (queueGood queue m)) (refused BadQueue m) (done (run f queue k m)))

@@ -3,12 +3,13 @@
 use mathlib.Core.Path.{_≡_}
 use mathlib.Core.List.{List}
 use Prim.Native.Nat.{ℕ, zero, suc, _+_, _*_, _^_, _≤_}
-use lib.ListN.{length, set}
+use lib.ListN.{length}
 use Rattle.control.specs.Control as control
 use Rattle.control.specs.declared.Rest.{Rest}
 use Rattle.control.specs.declared.Rest.the-variants.{Off as Rest·Off, Held as Rest·Held, Empty as Rest·Empty}
 use Rattle.commands.specs.declared.Features.{Features}
-use Rattle.image.specs.Image.{maxRows, rowsIn, controlOf}
+use Rattle.image.specs.Image.{maxRows}
+use Rattle.memory.specs.Memory.{Memory, controlOf, rowsIn, put, Whole}
 use Rattle.due.specs.Due.{What, Remove, Consume, Raise, Due, Rests, Stores, due}
 use Rattle.runs.specs.declared.End.{End}
 use Rattle.runs.specs.declared.End.the-variants.{Off, Held, Empty, Raised, Cut}
@@ -70,22 +71,22 @@ unfoldable pub runBy : {M : Type 0} → (M → Next M) → ℕ → M → Out M
 runBy f zero m = last (f m) m
 runBy f (suc k) m = next (λ m′. runBy f k m′) (f m) m
 
-abbrev pub nextOf : Due → List ℕ → Next (List ℕ)
+abbrev pub nextOf : Due → Memory → Next Memory
 nextOf (Rests rest) m = rests rest
-nextOf (Stores i v what) m = stores what (set m i v)
+nextOf (Stores place v what) m = stores what (put m place v)
 
-abbrev pub dueIn : Features → List ℕ → List ℕ → Next (List ℕ)
+abbrev pub dueIn : Features → List ℕ → Memory → Next Memory
 dueIn f queue m = nextOf (due f queue m) m
 
-abbrev pub run : Features → List ℕ → ℕ → List ℕ → Out (List ℕ)
+abbrev pub run : Features → List ℕ → ℕ → Memory → Out Memory
 run f queue k m = runBy (dueIn f queue) k m
 
-pub record Does (f : Features) (queue : List ℕ) (k : ℕ) (m m′ : List ℕ) (r : Ran) : Type 0 where
+pub record Does (f : Features) (queue : List ℕ) (k : ℕ) (m m′ : Memory) (r : Ran) : Type 0 where
   pub answers : r ≡ run f queue k m .ran
   pub leaves : m′ ≡ run f queue k m .memory
 
 -- what a run needs of an accepted image and its queue
-pub record Fit (queue m : List ℕ) : Type 0 where
-  pub room : 4 * rowsIn m + 1 ≤ length m
+pub record Fit (queue : List ℕ) (m : Memory) : Type 0 where
+  pub room : Whole m
   pub few : rowsIn m ≤ maxRows
   pub slots : length queue ≡ 16 * 2 ^ control.log2size (controlOf m)
