@@ -9,9 +9,8 @@ use Rattle.control.proofs.Openness.{open-waits}
 use Rattle.control_stores.proofs.AfterStores.{raised-formed}
 use Rattle.commands.specs.declared.Features.{Features}
 use Rattle.commands.specs.declared.Decoded.the-variants.{Legal}
-use Rattle.image.specs.Image.{rowsIn, controlOf}
-use Rattle.image.proofs.Checks.{Accepts, rows-are}
-use Rattle.image.proofs.AfterStores.{control-stored, row-cleared}
+use Rattle.memory.specs.Memory.{Memory, controlOf}
+use Rattle.memory.proofs.Laws.{Accepts, rows-are, control-formed as word-formed, stored-accepted, cleared-accepted}
 use Rattle.due.specs.Due.{What}
 use Rattle.due.proofs.Consuming.{after-formed}
 use Rattle.runs.specs.Running.{Next, stores, dueIn, run}
@@ -19,19 +18,19 @@ use Rattle.promises.proofs.Cases.{Case, removes, consumes, raises, IsDu
 use Rattle.promises.proofs.Sums.{run-keeps}
 
 module _ (f : Features) (queue : List ℕ) (n : ℕ) where
-  by-case : (m m′ : List ℕ) (w : What) → Accepts m n → IsDue f queue m w m′ → Case f queue m w m′ → Accepts m′ n
+  by-case : (m m′ : Memory) (w : What) → Accepts m n → IsDue f queue m w m′ → Case f queue m w m′ → Accepts m′ n
   by-case m m′ w a d (removes c i legal low what stored) =
-      rw stored (row-cleared m n a i (rw (rows-are m n (a .size)) at (low .below)))
+      rw stored (cleared-accepted m n a i (rw (rows-are m n a) at (low .below)))
   by-case m m′ w a d (consumes c legal nothing what stored) =
-      let formed = control-formed.formed (controlOf m) (a .control-formed) in
+      let formed = control-formed.formed (controlOf m) (word-formed m n a) in
       rw stored
-      (control-stored m n a _ (control-formed.is-formed _ (after-formed (Legal c) (controlOf m) formed (open-waits (controlOf m) (d .open-for-it)))))
+      (stored-accepted m n a _ (control-formed.is-formed _ (after-formed (Legal c) (controlOf m) formed (open-waits (controlOf m) (d .open-for-it)))))
   by-case m m′ w a d (raises why illegal what stored) =
-      let formed = control-formed.formed (controlOf m) (a .control-formed) in
-      rw stored (control-stored m n a _ (control-formed.is-formed _ (raised-formed (controlOf m) formed)))
+      let formed = control-formed.formed (controlOf m) (word-formed m n a) in
+      rw stored (stored-accepted m n a _ (control-formed.is-formed _ (raised-formed (controlOf m) formed)))
 
-  pub store-accepted : (m m′ : List ℕ) (w : What) → Accepts m n → dueIn f queue m ≡ stores w m′ → Accepts m′ n
+  pub store-accepted : (m m′ : Memory) (w : What) → Accepts m n → dueIn f queue m ≡ stores w m′ → Accepts m′ n
   store-accepted m m′ w a e = let d = is-due f queue m w m′ e in by-case m m′ w a d (d .kind)
 
-  pub run-accepted : (k : ℕ) (m : List ℕ) → Accepts m n → Accepts (run f queue k m .memory) n
+  pub run-accepted : (k : ℕ) (m : Memory) → Accepts m n → Accepts (run f queue k m .memory) n
   run-accepted k m a = run-keeps (dueIn f queue) (λ x. Accepts x n) store-accepted k m a

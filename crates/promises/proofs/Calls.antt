@@ -17,9 +17,10 @@ use Rattle.commands.specs.declared.Features.{Features}
 use Rattle.commands.specs.declared.Decoded.the-variants.{Legal}
 use Rattle.image.specs.declared.Checked.{Checked}
 use Rattle.image.specs.declared.Checked.the-variants.{Accepted, Refused as NotAccepted}
-use Rattle.image.specs.Image.{check, controlOf}
-use Rattle.image.proofs.Checks.{Accepts, accepts, says}
-use Rattle.image.proofs.AfterStores.{cleared-control}
+use Rattle.image.specs.Image.{check}
+use Rattle.image.proofs.Checks.{accepts, says}
+use Rattle.memory.specs.Memory.{Memory, controlOf}
+use Rattle.memory.proofs.Laws.{Accepts, accepted-whole, control-stored, control-cleared}
 use Rattle.due.specs.Due.{What, afterCommand}
 use Rattle.due.proofs.Consuming.{after-keeps}
 use Rattle.runs.specs.declared.RunRefusal.{RunRefusal}
@@ -38,42 +39,42 @@ use Rattle.promises.proofs.Resume.{as-uncut, uncut-same}
 
 module _ (f : Features) (queue : List ℕ) where
   -- a run keeps LOG2SIZE
-  record Sized (n size : ℕ) (m : List ℕ) : Type 0 where
+  record Sized (n size : ℕ) (m : Memory) : Type 0 where
     image : Accepts m n
     same : control.log2size (controlOf m) ≡ size
 
   module _ (n size : ℕ) where
-    size-kept : (m m′ : List ℕ) (w : What) → Sized n size m → Case f queue m w m′ → control.log2size (controlOf m′) ≡ size
-    size-kept m m′ w s (removes c i legal low what stored) = rw (stored, cleared-control m i) (s .same)
+    size-kept : (m m′ : Memory) (w : What) → Sized n size m → Case f queue m w m′ → control.log2size (controlOf m′) ≡ size
+    size-kept m m′ w s (removes c i legal low what stored) = rw (stored, control-cleared m i) (s .same)
     size-kept m m′ w s (consumes c legal nothing what stored) =
         let v = afterCommand (Legal c) (controlOf m) in
-        rw (stored, getD-set-same m 0 v 0 (omega (arith, s .image .size .words))) (after-keeps (Legal c) (controlOf m) control.log2sizeBits tt ∙ s .same)
+        rw (stored, control-stored m (accepted-whole m n (s .image)) v) (after-keeps (Legal c) (controlOf m) control.log2sizeBits tt ∙ s .same)
     size-kept m m′ w s (raises why illegal what stored) =
         let v = control-stores.raised (controlOf m) in
-        rw (stored, getD-set-same m 0 v 0 (omega (arith, s .image .size .words))) (raised-keeps (controlOf m) control.log2sizeBits tt ∙ s .same)
+        rw (stored, control-stored m (accepted-whole m n (s .image)) v) (raised-keeps (controlOf m) control.log2sizeBits tt ∙ s .same)
 
-    each-keeps : (m m′ : List ℕ) (w : What) → Sized n size m → dueIn f queue m ≡ stores w m′ → Sized n size m′
+    each-keeps : (m m′ : Memory) (w : What) → Sized n size m → dueIn f queue m ≡ stores w m′ → Sized n size m′
     each-keeps m m′ w s e =
         record { image = store-accepted f queue n m m′ w (s .image) e; same = size-kept m m′ w s (is-due f queue m w m′ e .kind) }
 
-  pub keeps-size : (n k : ℕ) (m : List ℕ) → Accepts m n → control.log2size (controlOf (run f queue k m .memory)) ≡ control.log2size (controlOf m)
+  pub keeps-size : (n k : ℕ) (m : Memory) → Accepts m n → control.log2size (controlOf (run f queue k m .memory)) ≡ control.log2size (controlOf m)
   keeps-size n k m a =
       run-keeps (dueIn f queue) (Sized n (control.log2size (controlOf m))) (each-keeps n (control.log2size (controlOf m))) k m (record { image = a; same = refl }) .same
 
   -- so the queue's length stays right, and refusal 4 cannot come
-  still-good : (n k : ℕ) (m : List ℕ) → Accepts m n → queueGood queue m ≡ true → queueGood queue (run f queue k m .memory) ≡ true
+  still-good : (n k : ℕ) (m : Memory) → Accepts m n → queueGood queue m ≡ true → queueGood queue (run f queue k m .memory) ≡ true
   still-good n k m a q = ap (λ (s : ℕ). eqb (length queue) (16 * 2 ^ s)) (keeps-size n k m a) ∙ q
 
   -- a call is refused whatever its allowance is, or is a run
-  data Goes (m : List ℕ) : Type 0 where
+  data Goes (m : Memory) : Type 0 where
     stops : (why : RunRefusal) → ((k : ℕ) → call f queue k m ≡ refused why m) → Goes m
     carried : (n : ℕ) → Accepts m n → queueGood queue m ≡ true → Goes m
 
-  carries : (n k : ℕ) (m : List ℕ) → Accepts m n → queueGood queue m ≡ true → call f queue k m ≡ done (run f queue k m)
+  carries : (n k : ℕ) (m : Memory) → Accepts m n → queueGood queue m ≡ true → call f queue k m ≡ done (run f queue k m)
   unfolding call
   carries n k m a q = rw (accepts m n a, q)
 
-  which-way : (m : List ℕ) → Goes m
+  which-way : (m : Memory) → Goes m
   unfolding call
   which-way m = by-check (check m) refl
     where
@@ -87,34 +88,34 @@ module _ (f : Features) (queue : List ℕ) where
 
   module _ (n : ℕ) where
     -- calls one after the other are runs one after the other
-    calls-are : (ks : List ℕ) (k : ℕ) (m : List ℕ) → Accepts m n → queueGood queue m ≡ true → calls f queue ks k m ≡ done (again (dueIn f queue) ks k m)
+    calls-are : (ks : List ℕ) (k : ℕ) (m : Memory) → Accepts m n → queueGood queue m ≡ true → calls f queue ks k m ≡ done (again (dueIn f queue) ks k m)
     unfolding calls again
     calls-are [] k m a q = carries n k m a q
     calls-are (b ∷ ks) k m a q =
         rw (carries n b m a q, calls-are ks k (run f queue b m .memory) (run-accepted f queue n b m a) (still-good n b m a q))
 
-    cut-runs : (ks : List ℕ) (m : List ℕ) → Accepts m n → queueGood queue m ≡ true → CallsCut f queue ks m → AllCut (dueIn f queue) ks m
+    cut-runs : (ks : List ℕ) (m : Memory) → Accepts m n → queueGood queue m ≡ true → CallsCut f queue ks m → AllCut (dueIn f queue) ks m
     cut-runs [] m a q none = all-none
     cut-runs (b ∷ ks) m a q (one cut c) =
         let is = carries n b m a q in
         all-one (rw is at cut) (cut-runs ks (run f queue b m .memory) (run-accepted f queue n b m a) (still-good n b m a q) (rw is at c))
 
   -- once a call was carried out, none after it is refused: of calls one after the other, a refusal would be the answer of all
-  pub never-refused : (a k : ℕ) (ks m : List ℕ) → CarriedOut (call f queue a m .answer) → CarriedOut (calls f queue ks k (call f queue a m .memory) .answer)
+  pub never-refused : (a k : ℕ) (ks : List ℕ) (m : Memory) → CarriedOut (call f queue a m .answer) → CarriedOut (calls f queue ks k (call f queue a m .memory) .answer)
   never-refused a k ks m c = by-way (which-way m)
     where
       by-way : Goes m → CarriedOut (calls f queue ks k (call f queue a m .memory) .answer)
-      by-way (stops why e) = let z : _≡_ {A = ℕ} 0 1 = cc (ap (λ (o : Outcome (List ℕ) RunAnswer). o .answer) (e a), c .is-done) in absurd (omega arith)
+      by-way (stops why e) = let z : _≡_ {A = ℕ} 0 1 = cc (ap (λ (o : Outcome Memory RunAnswer). o .answer) (e a), c .is-done) in absurd (omega arith)
       by-way (carried n accepted q) =
           let m′ = run f queue a m .memory in
           rw (carries n a m accepted q)
           (record {
             ran = again (dueIn f queue) ks k m′ .ran;
-            is-done = ap (λ (o : Outcome (List ℕ) RunAnswer). o .answer) (calls-are n ks k m′ (run-accepted f queue n a m accepted) (still-good n a m accepted q));
+            is-done = ap (λ (o : Outcome Memory RunAnswer). o .answer) (calls-are n ks k m′ (run-accepted f queue n a m accepted) (still-good n a m accepted q));
           })
 
   -- any number of cuts at any allowances, then a call that is not cut: answer and memory are those of a call that never was
-  pub call-as-uncut : (ks : List ℕ) (k j : ℕ) (m : List ℕ) → CallsCut f queue ks m
+  pub call-as-uncut : (ks : List ℕ) (k j : ℕ) (m : Memory) → CallsCut f queue ks m
       → (EndsCut (calls f queue ks k m .answer) → ⊥) → (EndsCut (call f queue j m .answer) → ⊥) → calls f queue ks k m ≡ call f queue j m
   unfolding calls
   call-as-uncut ks k j m cuts last uncut = by-way (which-way m)

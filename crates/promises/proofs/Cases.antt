@@ -4,7 +4,6 @@ use mathlib.Core.Path.{_≡_, refl, sym, ap, _∙_}
 use mathlib.Core.List.{List}
 use Prim.Native.Nat.{ℕ, _+_, _*_}
 use native.Mathlib.Omega.{arith}
-use lib.ListN.{set}
 use Rattle.words.specs.declared.Found.{Found}
 use Rattle.words.specs.declared.Found.the-variants.{At, Nothing}
 use Rattle.words.proofs.Search.{Lowest}
@@ -19,23 +18,22 @@ use Rattle.commands.specs.declared.Decoded.{Decoded}
 use Rattle.commands.specs.declared.Decoded.the-variants.{Legal, Illegal}
 use Rattle.commands.specs.Decoding.{syncsOf}
 use Rattle.commands.specs.declared.Reason.{Reason}
-use Rattle.image.specs.Image.{rowsIn, controlOf}
-use Rattle.image.proofs.AfterStores.{cleared}
-use Rattle.due.specs.Due.{What, Remove, Consume, Raise, Due, Rests, Stores, scopedAt, scan, byScan, afterCommand, dueFor, atRd, gate, due, raisingAt}
+use Rattle.memory.specs.Memory.{Memory, controlOf, rowsIn, scopedAt, stored as storedIn, cleared}
+use Rattle.due.specs.Due.{What, Remove, Consume, Raise, Due, Rests, Stores, scan, byScan, afterCommand, dueFor, atRd, gate, due, raisingAt}
 use Rattle.due.proofs.Scans.{lowest-scoped}
 use Rattle.runs.specs.Running.{Next, rests, stores, nextOf, dueIn}
 
 -- the store is one of three: the lowest row in scope of a legal command, the command itself once there is none, or the error
-pub data Case (f : Features) (queue m : List ℕ) (w : What) (m′ : List ℕ) : Type 0 where
+pub data Case (f : Features) (queue : List ℕ) (m : Memory) (w : What) (m′ : Memory) : Type 0 where
   removes : (c : Command) (i : ℕ) → atRd f queue m ≡ Legal c → Lowest (scopedAt f c m) (rowsIn m) 0 i → w ≡ Remove → m′ ≡ cleared m i → Case f queue m w m′
-  consumes : (c : Command) → atRd f queue m ≡ Legal c → scan f c m (rowsIn m) 0 ≡ Nothing → w ≡ Consume (syncsOf (Legal c)) → m′ ≡ set m 0 (afterCommand (Legal c) (controlOf m)) → Case f queue m w m′
-  raises : (why : Reason) → atRd f queue m ≡ Illegal why → w ≡ Raise (raisingAt why (controlOf m)) → m′ ≡ set m 0 (control-stores.raised (controlOf m)) → Case f queue m w m′
+  consumes : (c : Command) → atRd f queue m ≡ Legal c → scan f c m (rowsIn m) 0 ≡ Nothing → w ≡ Consume (syncsOf (Legal c)) → m′ ≡ storedIn m (afterCommand (Legal c) (controlOf m)) → Case f queue m w m′
+  raises : (why : Reason) → atRd f queue m ≡ Illegal why → w ≡ Raise (raisingAt why (controlOf m)) → m′ ≡ storedIn m (control-stores.raised (controlOf m)) → Case f queue m w m′
 
-pub record IsDue (f : Features) (queue m : List ℕ) (w : What) (m′ : List ℕ) : Type 0 where
+pub record IsDue (f : Features) (queue : List ℕ) (m : Memory) (w : What) (m′ : Memory) : Type 0 where
   pub open-for-it : control.standing (controlOf m) ≡ Open
   pub kind : Case f queue m w m′
 
-module _ (f : Features) (queue m : List ℕ) (w : What) (m′ : List ℕ) where
+module _ (f : Features) (queue : List ℕ) (m : Memory) (w : What) (m′ : Memory) where
   by-scan : (c : Command) → atRd f queue m ≡ Legal c → (x : Found) → scan f c m (rowsIn m) 0 ≡ x → nextOf (byScan c (controlOf m) x) m ≡ stores w m′ → Case f queue m w m′
   by-scan c legal (At i) e s = removes c i legal (lowest-scoped f c m (rowsIn m) i e) (cc) (cc)
   by-scan c legal Nothing e s = consumes c legal e (cc) (cc)
@@ -54,7 +52,7 @@ module _ (f : Features) (queue m : List ℕ) (w : What) (m′ : List ℕ) where
   is-due s = by-standing (control.standing (controlOf m)) refl s
 
 -- where the control word is open, a store is due
-module _ (f : Features) (queue m : List ℕ) (r : Rest) where
+module _ (f : Features) (queue : List ℕ) (m : Memory) (r : Rest) where
   never-rests : (d : Decoded) → nextOf (dueFor f d m) m ≡ rests r → ⊥
   unfolding dueFor
   never-rests (Legal c) e = by-found (scan f c m (rowsIn m) 0) e

@@ -18,8 +18,8 @@ use Rattle.commands.specs.declared.Features.{Features}
 use Rattle.commands.specs.declared.Decoded.the-variants.{Illegal}
 use Rattle.commands.specs.Decoding.{decodeAt}
 use Rattle.commands.specs.declared.Reason.{Reason}
-use Rattle.image.specs.Image.{controlOf}
-use Rattle.image.proofs.Checks.{Accepts}
+use Rattle.memory.specs.Memory.{Memory, controlOf}
+use Rattle.memory.proofs.Laws.{Accepts}
 use Rattle.due.specs.Due.{Remove, Consume, Raise, raisingAt}
 use Rattle.runs.specs.declared.End.{End}
 use Rattle.runs.specs.declared.End.the-variants.{Off, Held, Empty, Raised, Cut}
@@ -104,13 +104,13 @@ same-reason : {a b : Reason} → Illegal a ≡ Illegal b → a ≡ b
 same-reason e = cc
 
 module _ (f : Features) (queue : List ℕ) (n : ℕ) where
-  at-rest : (r : Rest) (k : ℕ) (m : List ℕ) → run f queue k m .ran .end ≡ endOf r
+  at-rest : (r : Rest) (k : ℕ) (m : Memory) → run f queue k m .ran .end ≡ endOf r
       → Reading (eqb (control.cmdqen (controlOf (run f queue k m .memory))) 0) (control.active (controlOf (run f queue k m .memory))) (eqb (control.rd (controlOf (run f queue k m .memory))) (control.wr (controlOf (run f queue k m .memory)))) r
   at-rest r k m e =
       read-word (controlOf (run f queue k m .memory)) r (rests-at f queue (run f queue k m .memory) r (rest-left (dueIn f queue) r k m e))
 
   -- every end, at every allowance
-  pub ends : (k : ℕ) (m : List ℕ) → Accepts m n → Means f queue k (run f queue k m .ran .end) (run f queue k m)
+  pub ends : (k : ℕ) (m : Memory) → Accepts m n → Means f queue k (run f queue k m .ran .end) (run f queue k m)
   ends k m a = by-end (run f queue k m .ran .end) refl
     where
       by-end : (e : End) → run f queue k m .ran .end ≡ e → Means f queue k e (run f queue k m)
@@ -121,7 +121,7 @@ module _ (f : Features) (queue : List ℕ) (n : ℕ) where
       by-end Cut e = cut-means (dueIn f queue) k m e
 
   -- CERROR_ILL the other way round: a run that comes to an illegal command raises the error there, if it may still store
-  pub comes-to-illegal : (why : Reason) (k : ℕ) (m : List ℕ) → Accepts m n
+  pub comes-to-illegal : (why : Reason) (k : ℕ) (m : Memory) → Accepts m n
       → control.standing (advanced f queue (run f queue k m .ran .consumed) (controlOf m)) ≡ Open
       → commandAt f queue (controlOf m) (run f queue k m .ran .consumed) ≡ Illegal why
       → (run f queue k m .ran .end ≡ Raised (raisingAt why (advanced f queue (run f queue k m .ran .consumed) (controlOf m)))) ⊎ ((run f queue k m .ran .end ≡ Cut) × (run f queue k m .ran .stores ≡ k))

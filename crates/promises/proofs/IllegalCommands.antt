@@ -8,8 +8,6 @@ use native.Mathlib.Omega.{arith}
 use lib.Dec.{T, eqb}
 use Rattle.words.specs.Ranges.{Range, get}
 use Rattle.words.proofs.Parts.{apart, allApart}
-use lib.ListN.{length, set}
-use lib.Seq.{getD-set-same}
 use borrow.Author.Tests.{eq-eqb, ne-eqb}
 use Rattle.control.specs.Control as control
 use Rattle.control.specs.declared.Rest.the-variants.{Off as Rest·Off, Held as Rest·Held}
@@ -21,7 +19,7 @@ use Rattle.commands.specs.declared.Features.{Features}
 use Rattle.commands.specs.declared.Decoded.the-variants.{Illegal}
 use Rattle.commands.specs.Decoding.{decodeAt}
 use Rattle.commands.specs.declared.Reason.{Reason}
-use Rattle.image.specs.Image.{controlOf}
+use Rattle.memory.specs.Memory.{Memory, controlOf, stored as storedIn}
 use Rattle.due.specs.Due.{Raise, dueFor, atRd, due, raisingAt}
 use Rattle.runs.specs.declared.End.the-variants.{Off, Held, Raised, Cut}
 use Rattle.runs.specs.Running.{rests, stores, rested, plus, runBy, dueIn, run}
@@ -40,9 +38,9 @@ opens : (w : ℕ) → (control.cmdqen w ≡ 0 → ⊥) → control.active w ≡ 
 unfolding control.standing
 opens w on quiet waits = rw (ne-eqb (control.cmdqen w) 0 on, quiet, ne-eqb (control.rd w) (control.wr w) waits)
 
-module _ (f : Features) (queue m : List ℕ) where
-  abbrev raisedMemory : List ℕ
-  raisedMemory = set m 0 (control-stores.raised (controlOf m))
+module _ (f : Features) (queue : List ℕ) (m : Memory) where
+  abbrev raisedMemory : Memory
+  raisedMemory = storedIn m (control-stores.raised (controlOf m))
 
   is-raise : {why : Reason} → control.standing (controlOf m) ≡ Open → atRd f queue m ≡ Illegal why
       → dueIn f queue m ≡ stores (Raise (raisingAt why (controlOf m))) raisedMemory
@@ -96,10 +94,10 @@ module _ (w : ℕ) where
       (λ e. open-waits w on (sym (kept control.rdBits tt tt) ∙ e ∙ kept control.wrBits tt tt))
 
 -- after acknowledging, the same illegal command raises again, and tells the same
-pub raises-again : {why : Reason} (f : Features) (queue m : List ℕ) (k : ℕ) → 0 < length m → control.standing (controlOf m) ≡ Open → atRd f queue m ≡ Illegal why
-    → (m₂ : List ℕ) → controlOf m₂ ≡ control-stores.acknowledged (control-stores.raised (controlOf m))
-    → run f queue (suc k) m₂ ≡ plus 0 1 0 0 (rested (Raised (raisingAt why (controlOf m))) (set m₂ 0 (control-stores.raised (controlOf m₂))))
-raises-again {why} f queue m k room on illegal m₂ word =
+pub raises-again : {why : Reason} (f : Features) (queue : List ℕ) (m : Memory) (k : ℕ) → control.standing (controlOf m) ≡ Open → atRd f queue m ≡ Illegal why
+    → (m₂ : Memory) → controlOf m₂ ≡ control-stores.acknowledged (control-stores.raised (controlOf m))
+    → run f queue (suc k) m₂ ≡ plus 0 1 0 0 (rested (Raised (raisingAt why (controlOf m))) (storedIn m₂ (control-stores.raised (controlOf m₂))))
+raises-again {why} f queue m k on illegal m₂ word =
     let same : control.slot (controlOf m₂) ≡ control.slot (controlOf m) = ap control.slot word ∙ same-slot (controlOf m) in
     illegal-raises f queue m₂ k (rw word (reopens (controlOf m) on)) (ap (λ (s : ℕ). decodeAt f queue s) same ∙ illegal)
-    ∙ ap (λ (s : ℕ). plus 0 1 0 0 (rested (Raised (record { why = why; slot = s })) (set m₂ 0 (control-stores.raised (controlOf m₂))))) same
+    ∙ ap (λ (s : ℕ). plus 0 1 0 0 (rested (Raised (record { why = why; slot = s })) (storedIn m₂ (control-stores.raised (controlOf m₂))))) same

@@ -8,8 +8,6 @@ use mathlib.Core.Logic.{_⊎_, inl, inr}
 use Prim.Native.Nat.{ℕ, zero, suc, _+_}
 use native.Mathlib.Omega.{arith}
 use lib.Dec.{eqb}
-use lib.ListN.{set}
-use lib.Seq.{getD-set-same}
 use borrow.Author.Tests.{eq-eqb, ne-eqb, eqb-true, eqb-false}
 use Rattle.words.specs.Choice.{pick}
 use Rattle.control.specs.Control as control
@@ -19,9 +17,8 @@ use Rattle.commands.specs.declared.Features.{Features}
 use Rattle.commands.specs.declared.Command.{Command}
 use Rattle.commands.specs.declared.Decoded.the-variants.{Legal}
 use Rattle.commands.specs.Decoding.{isCounted, syncsOf}
-use Rattle.image.specs.Image.{controlOf}
-use Rattle.image.proofs.Checks.{Accepts}
-use Rattle.image.proofs.AfterStores.{cleared-control}
+use Rattle.memory.specs.Memory.{Memory, controlOf}
+use Rattle.memory.proofs.Laws.{Accepts, accepted-whole, control-stored, control-cleared}
 use Rattle.due.specs.Due.{What, Remove, Consume, Raise, afterCommand}
 use Rattle.due.proofs.Consuming.{after-pending}
 use Rattle.runs.specs.Running.{Next, rests, stores, last, next, runBy, dueIn, run}
@@ -74,26 +71,26 @@ counted true a = refl
 counted false a = refl
 
 module _ (f : Features) (queue : List ℕ) (n : ℕ) where
-  abbrev pendingIn : List ℕ → ℕ
+  abbrev pendingIn : Memory → ℕ
   pendingIn m = control.pending (controlOf m)
 
-  by-case : (m m′ : List ℕ) (w : What) → Accepts m n → Case f queue m w m′ → pendingIn m′ ≡ setBy (syncsBy w) (pendingIn m)
-  by-case m m′ w a (removes c i legal low what stored) = rw (what, stored, cleared-control m i) refl
+  by-case : (m m′ : Memory) (w : What) → Accepts m n → Case f queue m w m′ → pendingIn m′ ≡ setBy (syncsBy w) (pendingIn m)
+  by-case m m′ w a (removes c i legal low what stored) = rw (what, stored, control-cleared m i) refl
   by-case m m′ w a (consumes c legal nothing what stored) =
       let v = afterCommand (Legal c) (controlOf m) in
-      rw (what, stored, getD-set-same m 0 v 0 (omega (arith, a .size .words))) (after-pending (Legal c) (controlOf m) ∙ counted (isCounted c) (pendingIn m))
+      rw (what, stored, control-stored m (accepted-whole m n a) v) (after-pending (Legal c) (controlOf m) ∙ counted (isCounted c) (pendingIn m))
   by-case m m′ w a (raises why illegal what stored) =
       let v = control-stores.raised (controlOf m) in
-      rw (what, stored, getD-set-same m 0 v 0 (omega (arith, a .size .words))) (raised-keeps (controlOf m) control.pendingBits tt)
+      rw (what, stored, control-stored m (accepted-whole m n a) v) (raised-keeps (controlOf m) control.pendingBits tt)
 
   -- at every allowance
-  pub pending-after : (k : ℕ) (m : List ℕ) → Accepts m n → control.pending (controlOf (run f queue k m .memory)) ≡ setBy (run f queue k m .ran .syncs) (control.pending (controlOf m))
+  pub pending-after : (k : ℕ) (m : Memory) → Accepts m n → control.pending (controlOf (run f queue k m .memory)) ≡ setBy (run f queue k m .ran .syncs) (control.pending (controlOf m))
   pending-after k m a =
       sets-bit (dueIn f queue) (λ x. Accepts x n) (store-accepted f queue n) pendingIn
       (λ x x′ w p e. by-case x x′ w p (is-due f queue x w x′ e .kind)) k m a
 
   -- the report is not lost: whatever was consumed and wherever it was cut
-  pub never-lost : (k : ℕ) (m : List ℕ) → Accepts m n → (run f queue k m .ran .syncs ≡ 0) ⊎ (control.isPending (controlOf (run f queue k m .memory)) ≡ true)
+  pub never-lost : (k : ℕ) (m : Memory) → Accepts m n → (run f queue k m .ran .syncs ≡ 0) ⊎ (control.isPending (controlOf (run f queue k m .memory)) ≡ true)
   never-lost k m a = by-test (eqb (run f queue k m .ran .syncs) 0) refl
     where
       by-test : (b : Bool) → eqb (run f queue k m .ran .syncs) 0 ≡ b → (run f queue k m .ran .syncs ≡ 0) ⊎ (control.isPending (controlOf (run f queue k m .memory)) ≡ true)
@@ -101,7 +98,7 @@ module _ (f : Features) (queue : List ℕ) (n : ℕ) where
       by-test false e = inr (eq-eqb (control.pending (controlOf (run f queue k m .memory))) 1 (rw e at (pending-after k m a)))
 
   -- nor made up: a bit that came to be set tells of a CMD_SYNC that was consumed
-  pub was-consumed : (k : ℕ) (m : List ℕ) → Accepts m n → control.pending (controlOf m) ≡ 0 → control.pending (controlOf (run f queue k m .memory)) ≡ 1
+  pub was-consumed : (k : ℕ) (m : Memory) → Accepts m n → control.pending (controlOf m) ≡ 0 → control.pending (controlOf (run f queue k m .memory)) ≡ 1
       → run f queue k m .ran .syncs ≡ 0 → ⊥
   was-consumed k m a clear set-now none =
       let same = rw (eq-eqb (run f queue k m .ran .syncs) 0 none) at (pending-after k m a) in

@@ -5,25 +5,19 @@ use mathlib.Core.Bool.{Bool, true, false, not}
 use mathlib.Core.List.{List}
 use Prim.Native.Nat.{ℕ, zero, suc, _+_, _≤_, _<_}
 use native.Mathlib.Omega.{arith}
-use lib.ListN.{length, set}
-use lib.Seq.{getD-set-same}
 use Rattle.words.proofs.Truth.{clash}
 use Rattle.control.specs.Control as control
 use Rattle.control.proofs.Formed as control-formed
 use Rattle.control.proofs.Openness.{open-waits}
 use Rattle.control_stores.specs.Stores as control-stores
 use Rattle.commands.specs.declared.Features.{Features}
-use Rattle.commands.specs.declared.Command.{Command}
 use Rattle.commands.specs.declared.Decoded.the-variants.{Legal, Illegal}
-use Rattle.scopes.proofs.Laws.{scoped}
-use Rattle.image.specs.Image.{rowsIn, controlOf, rowAt, isUsed, usedRows}
-use Rattle.image.proofs.Checks.{Accepts, rows-are}
-use Rattle.image.proofs.AfterStores.{cleared, cleared-control, used-kept, used-cleared}
-use Rattle.due.specs.Due.{What, Remove, Consume, Raise, scopedAt, afterCommand}
+use Rattle.memory.specs.Memory.{Memory, controlOf, usedRows}
+use Rattle.memory.proofs.Laws.{Accepts, rows-are, accepted-whole, control-formed as word-formed, control-stored, control-cleared, used-stored, used-cleared}
+use Rattle.due.specs.Due.{What, Remove, Consume, Raise, afterCommand}
 use Rattle.due.proofs.Consuming.{after-distance}
 use Rattle.runs.specs.declared.End.the-variants.{Cut}
 use Rattle.runs.specs.Running.{Out, Next, rests, stores, rested, plus, last, next, runBy, dueIn, run}
-use Rattle.promises.specs.Places.{word0}
 use Rattle.promises.specs.Sums.{removedBy}
 use Rattle.promises.proofs.Cases.{Case, removes, consumes, raises, IsDue, is-due}
 use Rattle.promises.proofs.Resume.{rest-uncut}
@@ -74,43 +68,38 @@ module _ {M : Type 0} (f : M → Next M) (P : M → Type 0) (keep : (m m′ : M)
   never-cut (suc k) m p h cut = uncut-next k m (f m) refl p h (λ m′ q l. never-cut k m′ q l) cut
 
 module _ (f : Features) (queue : List ℕ) (n : ℕ) where
-  scoped-used : (c : Command) (m : List ℕ) (i : ℕ) → scopedAt f c m i ≡ true → isUsed m i ≡ true
-  unfolding scopedAt isUsed
-  scoped-used c m i e = ap not (scoped f c (rowAt m i) e .used)
-
-  pub record Moves (m m′ : List ℕ) (w : What) : Type 0 where
+  pub record Moves (m m′ : Memory) (w : What) : Type 0 where
     pub used : usedRows m n ≡ usedRows m′ n + removedBy w
     pub some : 0 < usedRows m n + control.distance (controlOf m)
     pub fewer : goesOn w ≡ true → usedRows m′ n + control.distance (controlOf m′) < usedRows m n + control.distance (controlOf m)
 
-  by-case : (m m′ : List ℕ) (w : What) → Accepts m n → IsDue f queue m w m′ → Case f queue m w m′ → Moves m m′ w
+  by-case : (m m′ : Memory) (w : What) → Accepts m n → IsDue f queue m w m′ → Case f queue m w m′ → Moves m m′ w
   by-case m m′ w a d (removes c i legal low what stored) =
-      let room : word0 i < length m = omega (arith, a .size .words, low .below, rows-are m n (a .size)) in
-      let one = used-cleared m n i (rw (rows-are m n (a .size)) at (low .below)) room (scoped-used c m i (low .passes)) in
-      rw (stored, what) (record { used = omega (arith, one); some = omega (arith, one); fewer = λ on. rw (cleared-control m i) (omega (arith, one)) })
+      let one = used-cleared m n f c i a (rw (rows-are m n a) at (low .below)) (low .passes) in
+      rw (stored, what) (record { used = omega (arith, one); some = omega (arith, one); fewer = λ on. rw (control-cleared m i) (omega (arith, one)) })
   by-case m m′ w a d (consumes c legal nothing what stored) =
-      let formed = control-formed.formed (controlOf m) (a .control-formed) in
+      let formed = control-formed.formed (controlOf m) (word-formed m n a) in
       let v = afterCommand (Legal c) (controlOf m) in
-      let same = used-kept m n 0 v (λ i h e. omega arith) in
-      let word = getD-set-same m 0 v 0 (omega (arith, a .size .words)) in
+      let same = used-stored m n v in
+      let word = control-stored m (accepted-whole m n a) v in
       let less = after-distance (Legal c) (controlOf m) formed (open-waits (controlOf m) (d .open-for-it)) in
       rw (stored, what) (record { used = omega (arith, same); some = omega (arith, less); fewer = λ on. rw word (omega (arith, same, less)) })
   by-case m m′ w a d (raises why illegal what stored) =
-      let formed = control-formed.formed (controlOf m) (a .control-formed) in
-      let same = used-kept m n 0 (control-stores.raised (controlOf m)) (λ i h e. omega arith) in
+      let formed = control-formed.formed (controlOf m) (word-formed m n a) in
+      let same = used-stored m n (control-stores.raised (controlOf m)) in
       let less = after-distance (Illegal why) (controlOf m) formed (open-waits (controlOf m) (d .open-for-it)) in
       rw (stored, what) (record { used = omega (arith, same); some = omega (arith, less); fewer = λ on. clash on refl })
 
-  moves : (m m′ : List ℕ) (w : What) → Accepts m n → dueIn f queue m ≡ stores w m′ → Moves m m′ w
+  moves : (m m′ : Memory) (w : What) → Accepts m n → dueIn f queue m ≡ stores w m′ → Moves m m′ w
   moves m m′ w a e = let d = is-due f queue m w m′ e in by-case m m′ w a d (d .kind)
 
   -- used rows before equal used rows after plus rows removed
-  pub used-sum : (k : ℕ) (m : List ℕ) → Accepts m n → usedRows m n ≡ usedRows (run f queue k m .memory) n + run f queue k m .ran .removed
+  pub used-sum : (k : ℕ) (m : Memory) → Accepts m n → usedRows m n ≡ usedRows (run f queue k m .memory) n + run f queue k m .ran .removed
   used-sum k m a =
       removed-sum (dueIn f queue) (λ x. Accepts x n) (store-accepted f queue n) (λ x. usedRows x n) (λ x x′ w p e. moves x x′ w p e .used) k m a
 
   -- an allowance of used rows and waiting commands is never cut
-  pub enough-allowance : (k : ℕ) (m : List ℕ) → Accepts m n → usedRows m n + control.distance (controlOf m) ≤ k → run f queue k m .ran .end ≡ Cut → ⊥
+  pub enough-allowance : (k : ℕ) (m : Memory) → Accepts m n → usedRows m n + control.distance (controlOf m) ≤ k → run f queue k m .ran .end ≡ Cut → ⊥
   enough-allowance k m a h =
       never-cut (dueIn f queue) (λ x. Accepts x n) (store-accepted f queue n) (λ x. usedRows x n + control.distance (controlOf x))
       (λ x x′ w p e. (moves x x′ w p e .some, moves x x′ w p e .fewer)) k m a h

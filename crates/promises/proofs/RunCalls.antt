@@ -5,8 +5,6 @@ use mathlib.Core.Bool.{Bool, true, false, not}
 use mathlib.Core.List.{List}
 use Prim.Native.Nat.{ℕ, zero, suc, _<_}
 use native.Mathlib.Omega.{arith}
-use lib.ListN.{length, set}
-use lib.Seq.{getD-set-same}
 use Rattle.words.specs.Choice.{pick}
 use Rattle.control.specs.Control as control
 use Rattle.control.specs.declared.Rest.{Rest}
@@ -18,8 +16,10 @@ use Rattle.commands.specs.declared.Decoded.the-variants.{Illegal}
 use Rattle.commands.specs.Decoding.{decodeAt, isIllegal}
 use Rattle.image.specs.declared.Checked.{Checked}
 use Rattle.image.specs.declared.Checked.the-variants.{Accepted, Refused as NotAccepted}
-use Rattle.image.specs.Image.{check, controlOf}
-use Rattle.image.proofs.Checks.{Accepts, accepts}
+use Rattle.image.specs.Image.{check}
+use Rattle.image.proofs.Checks.{accepts}
+use Rattle.memory.specs.Memory.{Memory, controlOf}
+use Rattle.memory.proofs.Laws.{Accepts, accepted-whole, control-stored}
 use Rattle.due.specs.declared.Raising.{Raising}
 use Rattle.due.specs.Due.{What, Remove, Consume, Raise, raisingAt}
 use Rattle.runs.specs.declared.End.the-variants.{Held, Raised}
@@ -34,22 +34,22 @@ use Rattle.promises.proofs.Resume.{rest-unraised}
 use Rattle.promises.proofs.IllegalCommands.{raised-slot, error-holds}
 
 -- an unaccepted image is left as it is
-pub refused-leaves : (f : Features) (queue : List ℕ) (k : ℕ) (m : List ℕ) (c : Checked) → check m ≡ c → ((n : ℕ) → c ≡ Accepted n → ⊥) → call f queue k m .memory ≡ m
+pub refused-leaves : (f : Features) (queue : List ℕ) (k : ℕ) (m : Memory) (c : Checked) → check m ≡ c → ((n : ℕ) → c ≡ Accepted n → ⊥) → call f queue k m .memory ≡ m
 unfolding call
 refused-leaves f queue k m (NotAccepted why) e never = rw e
 refused-leaves f queue k m (Accepted n) e never = absurd (never n refl)
 
 module _ (f : Features) (queue : List ℕ) (n : ℕ) where
-  by-queue : (k : ℕ) (m : List ℕ) (b : Bool) → queueGood queue m ≡ b → Accepts m n → Accepts (pick (not b) (refused BadQueue m) (done (run f queue k m)) .memory) n
+  by-queue : (k : ℕ) (m : Memory) (b : Bool) → queueGood queue m ≡ b → Accepts m n → Accepts (pick (not b) (refused BadQueue m) (done (run f queue k m)) .memory) n
   by-queue k m true e a = run-accepted f queue n k m a
   by-queue k m false e a = a
 
   -- from accepted memory the call leaves accepted memory, at every allowance, refused or not
-  pub call-accepted : (k : ℕ) (m : List ℕ) → Accepts m n → Accepts (call f queue k m .memory) n
+  pub call-accepted : (k : ℕ) (m : Memory) → Accepts m n → Accepts (call f queue k m .memory) n
   unfolding call
   call-accepted k m a = rw (accepts m n a) (by-queue k m (queueGood queue m) refl a)
 
-  pub bad-queue-leaves : (k : ℕ) (m : List ℕ) → Accepts m n → queueGood queue m ≡ false → call f queue k m .memory ≡ m
+  pub bad-queue-leaves : (k : ℕ) (m : Memory) → Accepts m n → queueGood queue m ≡ false → call f queue k m .memory ≡ m
   unfolding call
   bad-queue-leaves k m a e = rw (accepts m n a, e)
 
@@ -81,11 +81,11 @@ module _ {M : Type 0} (f : M → Next M) (P : M → Type 0) (keep : (m m′ : M)
 
 module _ (f : Features) (queue : List ℕ) (n : ℕ) where
   -- what raising the error leaves, and what it tells
-  pub record Left (told : Raising) (m′ : List ℕ) : Type 0 where
+  pub record Left (told : Raising) (m′ : Memory) : Type 0 where
     pub is-raised : IsRaised f queue m′
     pub tells : Tells f queue (controlOf m′) told
 
-  pub raised-left : (told : Raising) (m m′ : List ℕ) → Accepts m n → dueIn f queue m ≡ stores (Raise told) m′ → Left told m′
+  pub raised-left : (told : Raising) (m m′ : Memory) → Accepts m n → dueIn f queue m ≡ stores (Raise told) m′ → Left told m′
   raised-left told m m′ a e = by-case (is-due f queue m (Raise told) m′ e .kind)
     where
       w : ℕ
@@ -97,7 +97,7 @@ module _ (f : Features) (queue : List ℕ) (n : ℕ) where
       by-case (raises why illegal what stored) =
           let on = is-due f queue m (Raise told) m′ e .open-for-it in
           let same : told ≡ raisingAt why w = cc in
-          let word : controlOf m′ ≡ control-stores.raised w = ap controlOf stored ∙ getD-set-same m 0 (control-stores.raised w) 0 (omega (arith, a .size .words)) in
+          let word : controlOf m′ ≡ control-stores.raised w = ap controlOf stored ∙ control-stored m (accepted-whole m n a) (control-stores.raised w) in
           let slot : control.slot (controlOf m′) ≡ control.slot w = ap control.slot word ∙ raised-slot w in
           let at-rd : decodeAt f queue (control.slot (controlOf m′)) ≡ Illegal why = ap (λ (s : ℕ). decodeAt f queue s) slot ∙ illegal in
           let left : IsRaised f queue m′ = record {
@@ -113,17 +113,17 @@ module _ (f : Features) (queue : List ℕ) (n : ℕ) where
           record { is-raised = left; tells = says }
 
   -- where a run ends Raised, at every allowance
-  pub raised-run : (told : Raising) (k : ℕ) (m : List ℕ) → Accepts m n → run f queue k m .ran .end ≡ Raised told → Left told (run f queue k m .memory)
+  pub raised-run : (told : Raising) (k : ℕ) (m : Memory) → Accepts m n → run f queue k m .ran .end ≡ Raised told → Left told (run f queue k m .memory)
   raised-run told k m a e =
       let r = raised-by (dueIn f queue) (λ x. Accepts x n) (store-accepted f queue n) told k m a e in
       raised-left told (r .before) (run f queue k m .memory) (r .held-before) (r .was-due)
 
   -- Document 02, T-09: the error tells why the command that RD still names is illegal, and its slot
-  pub error-tells : (told : Raising) (k : ℕ) (m : List ℕ) → Accepts m n → run f queue k m .ran .end ≡ Raised told → Tells f queue (controlOf (run f queue k m .memory)) told
+  pub error-tells : (told : Raising) (k : ℕ) (m : Memory) → Accepts m n → run f queue k m .ran .end ≡ Raised told → Tells f queue (controlOf (run f queue k m .memory)) told
   error-tells told k m a e = raised-run told k m a e .tells
 
   -- repeating a run that ended Raised: Held, and no word changes
-  pub raised-then-held : (told : Raising) (k j : ℕ) (m : List ℕ) → Accepts m n → run f queue k m .ran .end ≡ Raised told → run f queue j (run f queue k m .memory) ≡ rested Held (run f queue k m .memory)
+  pub raised-then-held : (told : Raising) (k j : ℕ) (m : Memory) → Accepts m n → run f queue k m .ran .end ≡ Raised told → run f queue j (run f queue k m .memory) ≡ rested Held (run f queue k m .memory)
   raised-then-held told k j m a e =
       let left = raised-run told k m a e .is-raised in
       error-holds f queue (run f queue k m .memory) j (left .in-error) (left .enabled)

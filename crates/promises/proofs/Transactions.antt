@@ -19,7 +19,7 @@ use Rattle.image.proofs.Checks.{Accepts, accepts, rows-are}
 use Rattle.fills.specs.declared.FillAnswer.{FillAnswer}
 use Rattle.fills.specs.Fills.{fill}
 use Rattle.fills.proofs.Laws.{Carried, other-rows-kept, half-filled, stays-accepted, Goes, stops, stores, which-way}
-use Rattle.due.specs.Due.{scopedAt}
+use Rattle.memory.specs.Memory.{scopedAt}
 use Rattle.runs.specs.Running.{run}
 use Rattle.lookups.specs.declared.Wanted.{Wanted}
 use Rattle.lookups.specs.Lookups.{find}

@@ -5,6 +5,7 @@ use mathlib.Core.List.{List, [], _∷_}
 use Prim.Native.Nat.{ℕ, _+_}
 use Rattle.words.specs.Outcomes.{Outcome}
 use Rattle.commands.specs.declared.Features.{Features}
+use Rattle.memory.specs.Memory.{Memory}
 use Rattle.runs.specs.declared.End.the-variants.{Cut}
 use Rattle.runs.specs.declared.Ran.{Ran}
 use Rattle.runs.specs.declared.RunAnswer.{RunAnswer}
@@ -26,7 +27,7 @@ _and_ (Done ran) (Done ran′) =
     })
 
 -- calls with these allowances and then a last one, each on the memory that the one before left, as one call
-unfoldable pub calls : Features → List ℕ → List ℕ → ℕ → List ℕ → Outcome (List ℕ) RunAnswer
+unfoldable pub calls : Features → List ℕ → List ℕ → ℕ → Memory → Outcome Memory RunAnswer
 calls f queue [] k m = call f queue k m
 calls f queue (a ∷ ks) k m =
     record {
@@ -40,9 +41,9 @@ EndsCut (Refused why) = ⊥
 EndsCut (Done ran) = ran .end ≡ Cut
 
 -- each of the calls before the last did
-pub data CallsCut (f : Features) (queue : List ℕ) : List ℕ → List ℕ → Type 0 where
-  none : {m : List ℕ} → CallsCut f queue [] m
-  one : {a : ℕ} {ks m : List ℕ} → EndsCut (call f queue a m .answer) → CallsCut f queue ks (call f queue a m .memory) → CallsCut f queue (a ∷ ks) m
+pub data CallsCut (f : Features) (queue : List ℕ) : List ℕ → Memory → Type 0 where
+  none : {m : Memory} → CallsCut f queue [] m
+  one : {a : ℕ} {ks : List ℕ} {m : Memory} → EndsCut (call f queue a m .answer) → CallsCut f queue ks (call f queue a m .memory) → CallsCut f queue (a ∷ ks) m
 
 -- it was carried out
 pub record CarriedOut (answer : RunAnswer) : Type 0 where

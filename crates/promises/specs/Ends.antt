@@ -7,7 +7,7 @@ use Prim.Native.Nat.{ℕ}
 use Rattle.control.specs.Control as control
 use Rattle.commands.specs.declared.Features.{Features}
 use Rattle.commands.specs.Decoding.{isIllegal}
-use Rattle.image.specs.Image.{controlOf}
+use Rattle.memory.specs.Memory.{Memory, controlOf}
 use Rattle.due.specs.Due.{What, atRd}
 use Rattle.runs.specs.declared.End.{End}
 use Rattle.runs.specs.declared.End.the-variants.{Off, Held, Empty, Raised, Cut}
@@ -34,13 +34,13 @@ pub record IsEmpty (w : ℕ) : Type 0 where
   pub none-waits : control.rd w ≡ control.wr w
 
 -- Raised: CERROR_ILL is active, and the command that RD still names is illegal
-pub record IsRaised (f : Features) (queue m : List ℕ) : Type 0 where
+pub record IsRaised (f : Features) (queue : List ℕ) (m : Memory) : Type 0 where
   pub enabled : control.cmdqen (controlOf m) ≡ 0 → ⊥
   pub in-error : control.active (controlOf m) ≡ true
   pub code : control.err (controlOf m) ≡ 1
   pub illegal : isIllegal (atRd f queue m) ≡ true
 
-abbrev pub Means : Features → List ℕ → ℕ → End → Out (List ℕ) → Type 0
+abbrev pub Means : Features → List ℕ → ℕ → End → Out Memory → Type 0
 Means f queue k Off o = IsOff (controlOf (o .memory))
 Means f queue k Held o = IsHeld (controlOf (o .memory))
 Means f queue k Empty o = IsEmpty (controlOf (o .memory))

@@ -6,7 +6,6 @@ use mathlib.Core.List.{List}
 use mathlib.Core.Logic.{_⊎_}
 use Prim.Native.Nat.{ℕ, zero, suc, _<_}
 use lib.Dec.{eqb}
-use lib.ListN.{length, getD}
 use Rattle.words.specs.Choice.{pick}
 use Rattle.control.specs.Control as control
 use Rattle.control_stores.specs.Stores as control-stores
@@ -15,11 +14,10 @@ use Rattle.commands.specs.declared.Command.{Command}
 use Rattle.commands.specs.declared.Decoded.{Decoded}
 use Rattle.commands.specs.declared.Decoded.the-variants.{Legal}
 use Rattle.commands.specs.Decoding.{decodeAt, isIllegal}
-use Rattle.image.specs.Image.{controlOf}
-use Rattle.due.specs.Due.{scopedAt, afterCommand}
+use Rattle.memory.specs.Memory.{Memory, controlOf, word0, scopedAt, Untouched}
+use Rattle.due.specs.Due.{afterCommand}
 use Rattle.runs.specs.declared.End.{End}
 use Rattle.runs.specs.declared.End.the-variants.{Cut}
-use Rattle.promises.specs.Places.{word0}
 use Rattle.promises.specs.Sums.{raise}
 
 -- the control word after t commands are consumed
@@ -36,13 +34,13 @@ abbrev pub closing : End → ℕ → ℕ
 closing end w = pick (eqb (raise end) 1) (control-stores.raised w) w
 
 -- a consumed command: it was legal, and no row is in its scope any more
-pub record Consumed (f : Features) (queue : List ℕ) (n : ℕ) (m m′ : List ℕ) (t : ℕ) : Type 0 where
+pub record Consumed (f : Features) (queue : List ℕ) (n : ℕ) (m m′ : Memory) (t : ℕ) : Type 0 where
   pub command : Command
   pub is-command : commandAt f queue (controlOf m) t ≡ Legal command
   pub gone : (i : ℕ) → i < n → scopedAt f command m′ i ≡ false
 
 -- in the scope of one of the commands consumed; or, only where the run was cut, of the one at RD
-pub record WasInScope (f : Features) (queue m : List ℕ) (consumed : ℕ) (end : End) (i : ℕ) : Type 0 where
+pub record WasInScope (f : Features) (queue : List ℕ) (m : Memory) (consumed : ℕ) (end : End) (i : ℕ) : Type 0 where
   pub which : ℕ
   pub command : Command
   pub reached : (which < consumed) ⊎ ((which ≡ consumed) × (end ≡ Cut))
@@ -50,7 +48,7 @@ pub record WasInScope (f : Features) (queue m : List ℕ) (consumed : ℕ) (end 
   pub in-scope : scopedAt f command m i ≡ true
 
 -- m before, m′ after a run over n rows that consumed so many commands and ended so
-pub record Found (f : Features) (queue : List ℕ) (n consumed : ℕ) (end : End) (m m′ : List ℕ) : Type 0 where
+pub record Found (f : Features) (queue : List ℕ) (n consumed : ℕ) (end : End) (m m′ : Memory) : Type 0 where
   -- RD moved by what was consumed; ERR and GERROR as they were, unless it ended Raised
   pub control-word : controlOf m′ ≡ closing end (advanced f queue consumed (controlOf m))
   -- every command consumed was legal, and every row in its scope is gone
@@ -58,7 +56,6 @@ pub record Found (f : Features) (queue : List ℕ) (n consumed : ℕ) (end : End
   -- the command that the error was raised on was illegal
   pub illegal : raise end ≡ 1 → isIllegal (commandAt f queue (controlOf m) consumed) ≡ true
   -- a word 0 that changed is 0, and its row was in such a scope
-  pub early : (i : ℕ) → i < n → (getD m′ (word0 i) 0 ≡ getD m (word0 i) 0) ⊎ ((getD m′ (word0 i) 0 ≡ 0) × WasInScope f queue m consumed end i)
+  pub early : (i : ℕ) → i < n → (word0 m′ i ≡ word0 m i) ⊎ ((word0 m′ i ≡ 0) × WasInScope f queue m consumed end i)
   -- every other word is as it was
-  pub others : (p : ℕ) → (p ≡ 0 → ⊥) → ((i : ℕ) → i < n → p ≡ word0 i → ⊥) → getD m′ p 0 ≡ getD m p 0
-  pub long : length m′ ≡ length m
+  pub others : Untouched n m m′

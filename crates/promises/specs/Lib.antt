@@ -1,4 +1,3 @@
-pub mod Places
 pub mod Bench
 pub mod Cuts
 pub mod Doubles
