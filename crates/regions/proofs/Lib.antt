@@ -4,3 +4,4 @@ pub mod Formed
 pub mod Laws
 pub mod Checks
 pub mod AfterStores
+pub mod Examples
