@@ -18,7 +18,7 @@ use Rattle.regions.specs.Regions.{sizes, isKnown, log2Size, bytes, isLas
 use Rattle.regions.specs.Scopes.{sizeOf, addressOf, namesRegion, liesIn, spared, inAll, inRegion}
 use Rattle.regions.proofs.Containing.{not-longer, each-in, in-each, never-partly, ends-below}
 use Rattle.regions.proofs.Formed.{Formed}
-use Rattle.regions.proofs.Sizes.{small}
+use Rattle.regions.proofs.Sizes.{larger-code, small}
 
 -- the byte at an address is one of the row's, or of the region that a command's fields give
 pub record OfRow (row : Region) (x : ℕ) : Type 0 where
@@ -142,6 +142,9 @@ module _ (row : Region) (page size : ℕ) (leaf : Bool) where
   pub larger-stays : bytes (sizeOf size) < extent row → inRegion row page size leaf ≡ false
   larger-stays h =
       never (inRegion row page size leaf) (λ t. omega (arith, not-longer (base row) (extent row) (addressOf page) (bytes (sizeOf size)) (tests t .placed)))
+
+  pub larger-code-stays : sizeOf size < sizeCode row → sizeCode row < length sizes → inRegion row page size leaf ≡ false
+  larger-code-stays h known = larger-stays (larger-code (sizeOf size) (sizeCode row) h known)
 
   pub leaf-spares : leaf ≡ true → isLast row ≡ false → inRegion row page size leaf ≡ false
   leaf-spares l e = never (inRegion row page size leaf) (λ t. clash (scoped t .last l) e)
