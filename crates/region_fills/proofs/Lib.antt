@@ -1,2 +1,3 @@
 pub mod Order
 pub mod Cases
+pub mod Laws
