@@ -5,7 +5,7 @@ ghost use mathlib.Core.Path.{_≡_};
 ghost use Prim.Native.Nat.{_<_};
 ghost use Rattle.regions.specs.Regions.{isKnown, log2Size, bytes, isLast, sizeCode, placed, wellFormed};
 
-// The sizes that have a code.
+// How many sizes have a code.
 const SIZES: u64 = 10;
 
 // Bases have so many bits.
