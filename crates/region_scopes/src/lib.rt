@@ -1,0 +1,1 @@
+// Which rows of the second table a command removes.
