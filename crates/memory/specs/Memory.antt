@@ -21,6 +21,9 @@ pub record Memory : Type 0 where
   pub kept : List ℕ
   pub table : List ℕ
 
+abbrev pub both : List ℕ → List ℕ → Memory
+both kept table = record { kept = kept; table = table }
+
 abbrev pub controlOf : Memory → ℕ
 controlOf m = image.controlOf (m .kept)
 
