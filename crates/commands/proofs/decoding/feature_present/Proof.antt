@@ -39,4 +39,6 @@ feature-present-spec =
     (λ c. rw (c .match .keys15))
     returns-16
     (λ c. rw (c .match .keys17))
+    (λ c. rw (c .match .keys18))
+    (λ c. rw (c .match .keys19))
     (λ c. last-present (c .before .args .f) (c .before .args .code) (c .match .rest)))
