@@ -6,7 +6,7 @@ use Rattle.words.proofs.Truth.{clash}
 use Rattle.rows.specs.declared.Row.{Row}
 use Rattle.commands.specs.declared.Features.{Features}
 use Rattle.commands.specs.declared.Command.{Command}
-use Rattle.commands.specs.declared.Command.the-variants.{PrefetchConfig, PrefetchAddr, CfgiSte, CfgiSteRange, CfgiCd, CfgiCdAll, TlbiNhAll, TlbiNhAsid, TlbiNhVa, TlbiNhVaa, TlbiEl2All, TlbiEl2Asid, TlbiEl2Va, TlbiEl2Vaa, TlbiS12Vmall, TlbiS2Ipa, TlbiNsnhAll, Sync}
+use Rattle.commands.specs.declared.Command.the-variants.{PrefetchConfig, PrefetchAddr, CfgiSte, CfgiSteRange, CfgiCd, CfgiCdAll, TlbiNhAll, TlbiNhAsid, TlbiNhVa, TlbiNhVaa, TlbiEl2All, TlbiEl2Asid, TlbiEl2Va, TlbiEl2Vaa, TlbiS12Vmall, TlbiS2Ipa, TlbiNsnhAll, Sync, DptiAll, DptiPa}
 use Rattle.scopes.specs.Scopes.{idle, inScope, tooWide}
 use Rattle.scopes.proofs.Laws.{not-removed}
 use Rattle.scopes.specs.Scopes.{removes}
@@ -37,6 +37,8 @@ first-only (TlbiS12Vmall vmid) row e = refl
 first-only (TlbiS2Ipa vmid target) row e = refl
 first-only TlbiNsnhAll row e = refl
 first-only (Sync cs) row e = refl
+first-only DptiAll row e = clash refl e
+first-only (DptiPa page size leaf) row e = clash refl e
 
 -- and one about the second the first
 pub second-only : (f : Features) (c : Command) (row : Row) → isRegional c ≡ true → inScope f c row ≡ false
@@ -59,6 +61,8 @@ second-only f (TlbiS12Vmall vmid) row e = clash e refl
 second-only f (TlbiS2Ipa vmid target) row e = clash e refl
 second-only f TlbiNsnhAll row e = clash e refl
 second-only f (Sync cs) row e = clash e refl
+second-only f DptiAll row e = not-removed f DptiAll row refl
+second-only f (DptiPa page size leaf) row e = not-removed f (DptiPa page size leaf) row refl
 
 pub empty-unscoped : (c : Command) (row : Region) → isEmpty row ≡ true → inTable c row ≡ false
 unfolding inTable inAll
@@ -80,6 +84,8 @@ empty-unscoped (TlbiS12Vmall vmid) row e = refl
 empty-unscoped (TlbiS2Ipa vmid target) row e = refl
 empty-unscoped TlbiNsnhAll row e = refl
 empty-unscoped (Sync cs) row e = refl
+empty-unscoped DptiAll row e = rw e
+empty-unscoped (DptiPa page size leaf) row e = empty-stays row page size leaf e
 
 -- 01, 02 and 46, and identifiers that are too wide, are none of theirs
 pub idle-first : (f : Features) (c : Command) → idle f c ≡ true → isRegional c ≡ false
@@ -102,3 +108,5 @@ idle-first f (TlbiS12Vmall vmid) e = refl
 idle-first f (TlbiS2Ipa vmid target) e = refl
 idle-first f TlbiNsnhAll e = refl
 idle-first f (Sync cs) e = refl
+idle-first f DptiAll e = clash e refl
+idle-first f (DptiPa page size leaf) e = clash e refl

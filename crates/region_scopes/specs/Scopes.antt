@@ -3,7 +3,7 @@
 use Prim.Native.Nat.{ℕ}
 use mathlib.Core.Bool.{Bool, true, false}
 use Rattle.commands.specs.declared.Command.{Command}
-use Rattle.commands.specs.declared.Command.the-variants.{PrefetchConfig, PrefetchAddr, CfgiSte, CfgiSteRange, CfgiCd, CfgiCdAll, TlbiNhAll, TlbiNhAsid, TlbiNhVa, TlbiNhVaa, TlbiEl2All, TlbiEl2Asid, TlbiEl2Va, TlbiEl2Vaa, TlbiS12Vmall, TlbiS2Ipa, TlbiNsnhAll, Sync}
+use Rattle.commands.specs.declared.Command.the-variants.{PrefetchConfig, PrefetchAddr, CfgiSte, CfgiSteRange, CfgiCd, CfgiCdAll, TlbiNhAll, TlbiNhAsid, TlbiNhVa, TlbiNhVaa, TlbiEl2All, TlbiEl2Asid, TlbiEl2Va, TlbiEl2Vaa, TlbiS12Vmall, TlbiS2Ipa, TlbiNsnhAll, Sync, DptiAll, DptiPa}
 use Rattle.regions.specs.declared.Region.{Region}
 use Rattle.regions.specs.Scopes.{inAll, inRegion}
 
@@ -27,6 +27,8 @@ isRegional (TlbiS12Vmall vmid) = false
 isRegional (TlbiS2Ipa vmid target) = false
 isRegional TlbiNsnhAll = false
 isRegional (Sync cs) = false
+isRegional DptiAll = true
+isRegional (DptiPa page size leaf) = true
 
 unfoldable pub inTable : Command → Region → Bool
 inTable PrefetchConfig row = false
@@ -47,3 +49,5 @@ inTable (TlbiS12Vmall vmid) row = false
 inTable (TlbiS2Ipa vmid target) row = false
 inTable TlbiNsnhAll row = false
 inTable (Sync cs) row = false
+inTable DptiAll row = inAll row
+inTable (DptiPa page size leaf) row = inRegion row page size leaf
