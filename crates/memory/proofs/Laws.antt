@@ -39,6 +39,9 @@ pub record Accepts (m : Memory) (n : ℕ) : Type 0 where
   pub image : images.Accepts (m .kept) first
   pub regions : tables.Accepts (m .table) second
 
+pub accepts-both : (m : Memory) (n r : ℕ) → images.Accepts (m .kept) n → tables.Accepts (m .table) r → Accepts m (n + r)
+accepts-both m n r a b = record { first = n; second = r; together = refl; image = a; regions = b }
+
 -- a row is of the first table or of the second
 pub kept-or-behind : (m : Memory) (i : ℕ) → (isKept m i ≡ true) ⊎ (isKept m i ≡ false)
 kept-or-behind m i = decided (isKept m i)
