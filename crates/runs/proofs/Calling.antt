@@ -1,13 +1,13 @@
 -- The call of a run, by what the check of the image and of the queue's length said.
 -- Assumes nothing.
-use mathlib.Core.Path.{_≡_, refl, ap}
-use mathlib.Core.Bool.{Bool, true, false}
+use mathlib.Core.Path.{_≡_, sym, ap, _∙_}
+use mathlib.Core.Bool.{Bool, true, false, not}
 use mathlib.Core.List.{List}
 use Prim.Native.Nat.{ℕ, _+_, _*_, _^_, _<_}
 use native.Mathlib.Omega.{arith}
 use lib.Dec.{eqb}
 use lib.ListN.{length}
-use borrow.Author.Tests.{eqb-true}
+use borrow.Author.Tests.{eqb-true, not-true, not-false}
 use Rattle.words.specs.Outcomes.{Gives}
 use Rattle.control.specs.Control as control
 use Rattle.commands.specs.declared.Features.{Features}
@@ -19,6 +19,7 @@ use Rattle.memory.specs.Memory.{Memory, controlOf}
 use Rattle.memory.proofs.Laws.{accepts-both, accepted-whole, rows-are}
 use Rattle.image.proofs.Checks.{says}
 use Rattle.regions.specs.declared.Refusal.{Refusal as regions·Refusal}
+use Rattle.regions.specs.declared.Checked.{Checked as regions·Checked}
 use Rattle.regions.specs.declared.Checked.the-variants.{Accepted as regions·Accepted, Refused as regions·NotAccepted}
 use Rattle.regions.specs.Table as regions
 use Rattle.regions.proofs.Checks.{says as regions·says}
@@ -28,34 +29,43 @@ use Rattle.runs.specs.declared.RunAnswer.the-variants.{Refused, Done}
 use Rattle.runs.specs.Running.{Does, Fit}
 use Rattle.runs.specs.Call.{queueGood, call}
 
-module _ (f : Features) (queue : List ℕ) (k : ℕ) (m : Memory) where
-  pub refuses-image : (why : Refusal) → check (m .kept) ≡ NotAccepted why → Gives (call f queue k m) m (Refused (Image why))
+-- x and y are what the checks of the two tables said, b what that of the queue's length said
+module _ (f : Features) (queue : List ℕ) (k : ℕ) (m : Memory) {x : Checked} (first : x ≡ check (m .kept)) where
+  pub refuses-image : {why : Refusal} → x ≡ NotAccepted why → Gives (call f queue k m) m (Refused (Image why))
   unfolding call
-  refuses-image why e = record { answers = rw e; leaves = rw e }
+  refuses-image e = let s = sym first ∙ e in record { answers = rw s; leaves = rw s }
 
-  module _ (n : ℕ) (e : check (m .kept) ≡ Accepted n) where
-    pub refuses-table : (why : regions·Refusal) → regions.check (m .table) ≡ regions·NotAccepted why → Gives (call f queue k m) m (Refused (Table why))
+  pub some-words : {n : ℕ} → x ≡ Accepted n → 0 < length (m .kept)
+  some-words {n} e = omega (arith, says (m .kept) .accepted n (sym first ∙ e) .size .words)
+
+  module _ {n : ℕ} (e : x ≡ Accepted n) {y : regions·Checked} (second : y ≡ regions.check (m .table)) where
+    pub refuses-table : {why : regions·Refusal} → y ≡ regions·NotAccepted why → Gives (call f queue k m) m (Refused (Table why))
     unfolding call
-    refuses-table why g = record { answers = rw (e, g); leaves = rw (e, g) }
+    refuses-table g = let s = sym first ∙ e in let t = sym second ∙ g in record { answers = rw (s, t); leaves = rw (s, t) }
 
-    pub some-words : 0 < length (m .kept)
-    some-words = omega (arith, says (m .kept) .accepted n e .size .words)
-
-    module _ (r : ℕ) (g : regions.check (m .table) ≡ regions·Accepted r) where
-      pub refuses-queue : queueGood queue m ≡ false → Gives (call f queue k m) m (Refused BadQueue)
+    module _ {r : ℕ} (g : y ≡ regions·Accepted r) {b : Bool} (long : b ≡ queueGood queue m) where
+      pub refuses-queue : not b ≡ true → Gives (call f queue k m) m (Refused BadQueue)
       unfolding call
-      refuses-queue q = record { answers = rw (e, g, q); leaves = rw (e, g, q) }
+      refuses-queue q =
+          let s = sym first ∙ e in
+          let t = sym second ∙ g in
+          let bad : queueGood queue m ≡ false = sym long ∙ not-true b q in
+          record { answers = rw (s, t, bad); leaves = rw (s, t, bad) }
 
-      pub does : {m′ : Memory} {ran : Ran} → queueGood queue m ≡ true → Does f queue k m m′ ran → Gives (call f queue k m) m′ (Done ran)
+      pub does : {m′ : Memory} {ran : Ran} → not b ≡ false → Does f queue k m m′ ran → Gives (call f queue k m) m′ (Done ran)
       unfolding call
-      does q d = record { answers = rw (e, g, q) (ap Done (d .answers)); leaves = rw (e, g, q) (d .leaves) }
+      does q d =
+          let s = sym first ∙ e in
+          let t = sym second ∙ g in
+          let good : queueGood queue m ≡ true = sym long ∙ not-false b q in
+          record { answers = rw (s, t, good) (ap Done (d .answers)); leaves = rw (s, t, good) (d .leaves) }
 
       -- accepted memory and its queue fit a run
-      pub fits-run : queueGood queue m ≡ true → Fit queue m
+      pub fits-run : not b ≡ false → Fit queue m
       fits-run q =
-          let a = accepts-both m n r (says (m .kept) .accepted n e) (regions·says (m .table) .accepted r g) in
+          let a = accepts-both m n r (says (m .kept) .accepted n (sym first ∙ e)) (regions·says (m .table) .accepted r (sym second ∙ g)) in
           record {
             room = accepted-whole m (n + r) a;
             few = omega (arith, rows-are m (n + r) a, a .image .size .few, a .regions .size .few);
-            slots = eqb-true (length queue) (16 * 2 ^ control.log2size (controlOf m)) q;
+            slots = eqb-true (length queue) (16 * 2 ^ control.log2size (controlOf m)) (sym long ∙ not-false b q);
           }

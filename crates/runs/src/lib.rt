@@ -40,7 +40,13 @@ pub enum RunAnswer {
 }
 
 // Carries out the commands that wait, with at most allowance stores.
-pub fn run(kept: &mut [u64], table: &mut [u64], queue: &[u8], f: Features, allowance: u64) -> RunAnswer
+pub fn run(
+    kept: &mut [u64],
+    table: &mut [u64],
+    queue: &[u8],
+    f: Features,
+    allowance: u64,
+) -> RunAnswer
     ensures { λ r. ⌜ Gives (call f (now (queue .entry)) allowance (both (now (kept .entry)) (now (table .entry)))) (both (now (kept .exit)) (now (table .exit))) r ⌝ }
 {
     let checked = image::check(&*kept);
