@@ -7,6 +7,9 @@ use Rattle.words.specs.Choice.{pick}
 use Rattle.image.specs.declared.Refusal.{Refusal}
 use Rattle.image.specs.declared.Refusal.the-variants.{BadLength, BadControl, BadRow}
 use Rattle.image.specs.Image as image
+use Rattle.regions.specs.declared.Refusal.{Refusal as Table·Refusal}
+use Rattle.regions.specs.declared.Refusal.the-variants.{BadLength as Table·BadLength, BadRow as Table·BadRow}
+use Rattle.regions.specs.Table as table
 use Rattle.commands.specs.Decoding.{reasonNumber}
 use Rattle.runs.specs.declared.End.{End}
 use Rattle.runs.specs.declared.End.the-variants.{Off, Held, Empty, Raised, Cut as Run·Cut}
@@ -63,6 +66,14 @@ rowOf (BadRow i) = i
 
 abbrev pub imageReply : Refusal → Reply
 imageReply why = record { code = image.number why; words = rowOf why ∷ 0 ∷ 0 ∷ 0 ∷ 0 ∷ 0 ∷ 0 ∷ 0 ∷ [] }
+
+-- Document 02, T-11: refusal 14 names a row of the second table
+abbrev pub tableRowOf : Table·Refusal → ℕ
+tableRowOf Table·BadLength = 0
+tableRowOf (Table·BadRow i) = i
+
+abbrev pub tableReply : Table·Refusal → Reply
+tableReply why = record { code = table.number why; words = tableRowOf why ∷ 0 ∷ 0 ∷ 0 ∷ 0 ∷ 0 ∷ 0 ∷ 0 ∷ [] }
 
 -- Document 02, T-09: what a raised error tells, and 0 where none was raised
 abbrev pub reasonIn : End → ℕ
