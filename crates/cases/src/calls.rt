@@ -2,7 +2,7 @@
 use crate::show;
 use attributes::Attributes;
 
-// c asks for the state; r runs with features and an allowance; f fills a row with four words under an allowance; g fills one of the
+// c asks for the state; r runs with features and an allowance, and u tells the second table too; f fills a row with four words under an allowance; g fills one of the
 // second table with two; d rings with a WR; a acknowledges; p clears the pending bit; e enables or disables; t translates. Of a
 // recorder w writes four words under an allowance, o reads the oldest, x acknowledges. A call that may store also tells every word
 // afterwards of what it stores to.
@@ -13,6 +13,10 @@ pub fn call(verb: u8, w: [u64; 8], kept: &mut [u64], table: &mut [u64], queue: &
     match verb {
         b'c' | b't' => text::say(b"\n"),
         b'g' => text::listed(b"; table", &*table),
+        b'u' => {
+            text::listed(b"; kept", &*kept);
+            text::listed(b"  table", &*table);
+        }
         _ => text::listed(b"; kept", &*kept),
     }
 }
@@ -27,7 +31,7 @@ fn made(
 ) -> u64 {
     match verb {
         b'c' => host::tahvenno_state(&*kept, &mut *answer),
-        b'r' => host::tahvenno_run(&mut *kept, queue, w[0], w[1], &mut *answer),
+        b'r' | b'u' => host::tahvenno_run(&mut *kept, &mut *table, queue, w[0], w[1], &mut *answer),
         b'f' => host::tahvenno_fill(&mut *kept, w[0], w[1], w[2], w[3], w[4], w[5], &mut *answer),
         b'g' => host::tahvenno_table_fill(
             &*kept,

@@ -17,7 +17,7 @@ fn done(verb: u8, w: [u64; 8]) {
             b"accepted, RD 0x$, WR 0x$, ERR #, active #, enabled #, used #",
             w,
         ),
-        b'r' => run(w),
+        b'r' | b'u' => run(w),
         b'f' | b'g' => told(b"{Filled|Cut}, stores #", w),
         b't' => outcome(w),
         b'w' => told(b"{Stored|Dropped|Cut}, stores #", w),

@@ -8,6 +8,7 @@ use Rattle.words.specs.Outcomes.{Outcome}
 use Rattle.rows.specs.declared.Row.{Row}
 use Rattle.regions.specs.declared.Region.{Region}
 use Rattle.commands.specs.FeatureBits.{featuresOf}
+use Rattle.memory.specs.Memory.{Memory}
 use Rattle.runs.specs.Call as runs
 use Rattle.fills.specs.Fills as fills
 use Rattle.region_fills.specs.Fills as region-fills
@@ -22,7 +23,8 @@ use Rattle.interface.specs.Recorded.{eventWriteReply, eventReadReply, eventAckn
 use Rattle.interface.specs.Tables.{tableFillReply}
 use Rattle.host.specs.Told.{telling}
 
-abbrev pub run : ℕ → ℕ → List ℕ → List ℕ → Outcome (List ℕ) Reply
+-- with document 02, T-11: the kept memory and the second table
+abbrev pub run : ℕ → ℕ → List ℕ → Memory → Outcome Memory Reply
 run features allowance queue m = telling runReply (runs.call (featuresOf features) queue allowance m)
 
 abbrev pub fill : ℕ → Row → ℕ → List ℕ → Outcome (List ℕ) Reply

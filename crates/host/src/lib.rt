@@ -5,6 +5,7 @@ use interface::Reply;
 use regions::Region;
 use rows::Row;
 ghost use Rattle.interface.specs.Asked.{transactionOf};
+ghost use Rattle.memory.specs.Memory.{both};
 ghost use Rattle.host.specs.Told.{Told, Leaves};
 ghost use Rattle.host.specs.Calls.{run, fill, tableFill, doorbell, acknowledge, clearPending, enable, eventWrite, eventRead, eventAcknowledge, translate, state};
 
@@ -20,15 +21,16 @@ fn tell(answer: &mut [u64; 8], reply: Reply) -> u64
 #[no_mangle]
 pub extern "C" fn tahvenno_run(
     kept: &mut [u64],
+    table: &mut [u64],
     queue: &[u8],
     features: u64,
     allowance: u64,
     answer: &mut [u64; 8],
 ) -> u64
-    ensures { λ r. ⌜ Leaves (run features allowance (now (queue .entry)) (now (kept .entry))) (now (kept .exit)) (now (answer .exit)) r ⌝ }
+    ensures { λ r. ⌜ Leaves (run features allowance (now (queue .entry)) (both (now (kept .entry)) (now (table .entry)))) (both (now (kept .exit)) (now (table .exit))) (now (answer .exit)) r ⌝ }
 {
     let f = commands::features_of(features);
-    let a = runs::run(&mut *kept, queue, f, allowance);
+    let a = runs::run(&mut *kept, &mut *table, queue, f, allowance);
     tell(&mut *answer, interface::run_reply(a))
 }
 

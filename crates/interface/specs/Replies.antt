@@ -14,7 +14,7 @@ use Rattle.commands.specs.Decoding.{reasonNumber}
 use Rattle.runs.specs.declared.End.{End}
 use Rattle.runs.specs.declared.End.the-variants.{Off, Held, Empty, Raised, Cut as Run·Cut}
 use Rattle.runs.specs.declared.RunRefusal.{RunRefusal}
-use Rattle.runs.specs.declared.RunRefusal.the-variants.{Image as Run·Image, BadQueue}
+use Rattle.runs.specs.declared.RunRefusal.the-variants.{Image as Run·Image, Table as Run·Table, BadQueue}
 use Rattle.runs.specs.declared.RunAnswer.{RunAnswer}
 use Rattle.runs.specs.declared.RunAnswer.the-variants.{Refused as NotRun, Done as DidRun}
 use Rattle.runs.specs.Running as running
@@ -93,6 +93,7 @@ slotIn Run·Cut = 0
 -- a run: its end, the four counts, and what a raised error tells
 abbrev pub runRefusal : RunRefusal → Reply
 runRefusal (Run·Image why) = imageReply why
+runRefusal (Run·Table why) = tableReply why
 runRefusal BadQueue = nothing (runs.number BadQueue)
 
 abbrev pub runReply : RunAnswer → Reply

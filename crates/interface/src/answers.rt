@@ -128,6 +128,7 @@ fn run_refusal(why: RunRefusal) -> Reply
 {
     match why {
         RunRefusal::Image(r) => image_reply(r),
+        RunRefusal::Table(r) => table_reply(r),
         RunRefusal::BadQueue => nothing(4),
     }
 }
