@@ -13,7 +13,7 @@ import sys
 
 STORES = {
     # to kept memory, of which a call makes at most one
-    ('due', 'step'): 3,
+    ('due', 'step'): 4,
     ('fills', 'step'): 1,
     ('control_calls', 'doorbell'): 1,
     ('control_calls', 'acknowledge'): 1,

@@ -9,7 +9,7 @@ ghost use mathlib.Core.Path.{_≡_};
 ghost use Prim.Native.Nat.{_+_, _^_, _≤_, _<_};
 ghost use Rattle.words.specs.Choice.{pick};
 ghost use Rattle.region_scopes.specs.Scopes.{isRegional};
-ghost use Rattle.memory.specs.Memory.{both, rowsIn, scopedAt, cleared, Whole};
+ghost use Rattle.memory.specs.Memory.{both, rowsIn, scopedAt, Whole};
 ghost use Rattle.due.specs.Due.{scanned, afterCommand, Ready, Made};
 ghost use Rattle.commands.specs.declared.Decoded.the-variants.{Legal};
 
@@ -68,19 +68,6 @@ fn find_from(kept: &[u64], table: &[u64], f: Features, c: Command, from: usize) 
     Found::Nothing
 }
 
-// Empties row i.
-fn clear(kept: &mut [u64], table: &mut [u64], i: usize)
-    requires { ⌜ Whole (both (now kept) (now table)) × (i < rowsIn (both (now kept) (now table))) ⌝ }
-    ensures { λ r. ⌜ both (now (kept .exit)) (now (table .exit)) ≡ cleared (both (now (kept .entry)) (now (table .entry))) i ⌝ }
-{
-    let rows = kept.len() / 4;
-    if i < rows {
-        kept[4 * i + 1] = 0;
-        return;
-    }
-    table[2 * (i - rows)] = 0;
-}
-
 // The control word after a command is consumed: the interrupt of a CMD_SYNC with CS 1 is pending by the same store.
 fn after_command(c: Command, w: u64) -> u64
     ensures { λ r. ⌜ r ≡ afterCommand (Legal c) w ⌝ }
@@ -101,7 +88,12 @@ pub fn step(kept: &mut [u64], table: &mut [u64], f: Features, d: Decoded, from: 
     match d {
         Decoded::Legal(c) => match find_from(&*kept, &*table, f, c, from) {
             Found::At(i) => {
-                clear(&mut *kept, &mut *table, i);
+                let rows = kept.len() / 4;
+                if i < rows {
+                    kept[4 * i + 1] = 0;
+                    return Stepped::Removed(i);
+                }
+                table[2 * (i - rows)] = 0;
                 Stepped::Removed(i)
             }
             Found::Nothing => {
