@@ -13,8 +13,7 @@ mod seen;
 mod upper;
 
 use crate::call::{Call, FIRST_EVENT, NAMES, NUMBERS};
-use crate::generate::random::Random;
-use crate::lent::Lent;
+use crate::lent::{Lent, Memory};
 use crate::limits::{words, ROWS, SLOTS};
 use crate::unit;
 use std::process::Command;
@@ -65,12 +64,13 @@ const RUN: usize = 0;
 const TRANSLATE: usize = 5;
 const STATE: usize = 6;
 
-/// A call that the unit has answered: the memory before, the number, and what is
-/// lent, as the unit left it.
+/// A call that the unit has answered: the memory and the second table before, the
+/// number, and what is lent, as the unit left it.
 struct Around<'a> {
     before: &'a [u64],
+    table: &'a [u64],
     number: u64,
-    kept: &'a mut Lent,
+    kept: &'a mut Memory,
     answer: &'a mut Lent,
 }
 
@@ -172,7 +172,7 @@ fn caught(wrong: &Wrong) -> bool {
 
 impl Wrong {
     /// Makes the call as `unit::perform` does, with the fault.
-    pub fn perform(&self, call: Call, kept: &mut Lent, answer: &mut Lent) -> u64 {
+    pub fn perform(&self, call: Call, kept: &mut Memory, answer: &mut Lent) -> u64 {
         match self.fault {
             Fault::Upper(fault) => return fault.perform(call, kept, answer),
             Fault::Doubles(fault) => return fault.perform(call, kept, answer),
@@ -180,7 +180,7 @@ impl Wrong {
             Fault::Ranges(fault) => return fault.perform(call, kept, answer),
             _ => (),
         }
-        let before = kept.inner().to_vec();
+        let before = kept.copy();
         let number = match (call, self.seen(call)) {
             (
                 Call::Run {
@@ -233,17 +233,19 @@ impl Wrong {
     fn after(
         &self,
         call: Call,
-        before: &[u64],
+        before: &Memory,
         number: u64,
-        kept: &mut Lent,
+        kept: &mut Memory,
         answer: &mut Lent,
     ) -> u64 {
         let last = words(ROWS - 1);
         let row = answer.inner()[0];
+        let (before, table) = (before.inner(), before.table());
         match self.fault {
             Fault::Pending(_) | Fault::Events(_) => {
                 let around = Around {
                     before,
+                    table,
                     number,
                     kept,
                     answer,
@@ -283,13 +285,14 @@ impl Wrong {
 }
 
 /// The call on a memory whose last row is empty; its words come back as they were.
-fn without_last(call: Call, kept: &mut Lent, answer: &mut Lent) -> u64 {
+fn without_last(call: Call, kept: &mut Memory, answer: &mut Lent) -> u64 {
     let last = words(ROWS - 1);
     let mut copy = kept.inner().to_vec();
     copy[last] = 0;
-    let mut copy = Lent::new(&copy, &mut Random::new(0));
+    let mut copy = kept.beside(&copy);
     let number = unit::perform(call, &mut copy, answer);
     kept.inner_mut()[..last].copy_from_slice(&copy.inner()[..last]);
+    kept.table_mut().copy_from_slice(copy.table());
     number
 }
 
