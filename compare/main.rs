@@ -83,6 +83,7 @@ fn compare(seed: u64, wrong: Option<Wrong>) -> ExitCode {
     phases::doubles::cases::cases(&mut checker);
     phases::hyp::cases::cases(&mut checker);
     phases::ranges::cases::cases(&mut checker);
+    phases::regions::cases::cases(&mut checker);
     phases::events::cases::cases(&mut checker);
     phases::hyp::hyp(&mut checker);
     phases::events::events(&mut checker);
@@ -91,6 +92,7 @@ fn compare(seed: u64, wrong: Option<Wrong>) -> ExitCode {
     phases::pending::pending(&mut checker);
     phases::upper::upper(&mut checker);
     phases::doubles::doubles(&mut checker);
+    phases::regions::regions(&mut checker);
     phases::ranges::ranges(&mut checker);
     phases::commands::sweeps(&mut checker);
     phases::formats::sweeps(&mut checker);

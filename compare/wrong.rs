@@ -14,7 +14,7 @@ mod upper;
 
 use crate::call::{Call, FIRST_EVENT, NAMES, NUMBERS};
 use crate::lent::{Lent, Memory};
-use crate::limits::{words, ROWS, SLOTS};
+use crate::limits::{words, REGIONS, ROWS, SLOTS};
 use crate::unit;
 use std::process::Command;
 
@@ -26,7 +26,7 @@ enum Fault {
     Narrow(usize, usize),
     /// A number is taken for 0 if its top bit is set, which nobody looks at.
     Shy(usize, usize),
-    /// A word of a call's answer, after refusal 3 or else after 0, never gets to
+    /// A word of a call's answer, after refusal 3 or 14 or else after 0, never gets to
     /// the limit.
     Short(usize, u64, usize, u64),
     /// A call doesn't see what is wrong with the last row of the largest table.
@@ -63,6 +63,7 @@ pub struct Wrong {
 const RUN: usize = 0;
 const TRANSLATE: usize = 5;
 const STATE: usize = 6;
+const TABLE_FILL: usize = 8;
 
 /// A call that the unit has answered: the memory and the second table before, the
 /// number, and what is lent, as the unit left it.
@@ -80,12 +81,14 @@ pub fn all() -> Vec<Wrong> {
     let mut add = |name: String, fault| all.push(Wrong { name, fault });
     for (call, number, word, limit, what) in [
         (RUN, 0, 1, SLOTS, "commands consumed"),
-        (RUN, 0, 2, SLOTS + ROWS, "stores"),
-        (RUN, 0, 3, ROWS, "rows removed"),
+        (RUN, 0, 2, SLOTS + ROWS + REGIONS, "stores"),
+        (RUN, 0, 3, ROWS + REGIONS, "rows removed"),
         (RUN, 0, 4, SLOTS, "CMD_SYNCs"),
         (RUN, 0, 6, SLOTS - 1, "the slot"),
         (STATE, 0, 5, ROWS, "used rows"),
         (STATE, 3, 0, ROWS - 1, "the row that is refused"),
+        (RUN, 14, 0, REGIONS - 1, "the table's row that is refused"),
+        (TABLE_FILL, 14, 0, REGIONS - 1, "the same by a fill"),
     ] {
         let fault = Fault::Short(call, number, word, limit);
         add(format!("{what} below {limit}"), fault);
