@@ -70,6 +70,8 @@ impl Checker {
         self.tally.doubles.count(&before, &call, &ours);
         self.tally.hyp.count(&before, &call, &ours, kept);
         self.tally.ranges.count(&before, &call, &ours, kept);
+        let start = (&before[..], &self.table[..]);
+        self.tally.regions.count(start, &call, &ours, (kept, table));
 
         let mut scene = self.scene(&before, call, (theirs, lent.inner()), (ours, kept));
         scene.tables = [lent.table(), table];

@@ -6,6 +6,7 @@ mod events;
 mod hyp;
 mod pending;
 mod ranges;
+mod regions;
 mod upper;
 
 use crate::call::{Call, Reply, FIRST_EVENT, NAMES};
@@ -15,6 +16,7 @@ use events::Events;
 use hyp::Hyp;
 use pending::Pending;
 use ranges::Ranges;
+use regions::Regions;
 use upper::Upper;
 
 const RUN_ENDS: [&str; 5] = ["Off", "Held", "Empty", "Raised", "Cut"];
@@ -49,6 +51,7 @@ pub struct Tally {
     pub doubles: Doubles,
     pub hyp: Hyp,
     pub ranges: Ranges,
+    pub regions: Regions,
     pub events: Events,
     configs: [u64; 8],
     config_hits: [u64; 8],
@@ -102,6 +105,7 @@ impl Tally {
         self.doubles.print(&mut table);
         self.hyp.print(&mut table);
         self.ranges.print(&mut table);
+        self.regions.print(&mut table);
         self.events.print(&mut table);
         table.missing
     }
