@@ -9,6 +9,7 @@ mod hyp;
 mod pending;
 mod ranges;
 mod reasons;
+mod regions;
 mod seen;
 mod upper;
 
@@ -53,6 +54,8 @@ enum Fault {
     Hyp(hyp::Fault),
     /// Ranges are others.
     Ranges(ranges::Fault),
+    /// The second table is another.
+    Regions(regions::Fault),
 }
 
 pub struct Wrong {
@@ -131,6 +134,9 @@ fn requests() -> Vec<Wrong> {
     for (name, fault) in ranges::all() {
         add(name, Fault::Ranges(fault));
     }
+    for (name, fault) in regions::all() {
+        add(name, Fault::Regions(fault));
+    }
     all
 }
 
@@ -181,6 +187,7 @@ impl Wrong {
             Fault::Doubles(fault) => return fault.perform(call, kept, answer),
             Fault::Hyp(fault) => return fault.perform(call, kept, answer),
             Fault::Ranges(fault) => return fault.perform(call, kept, answer),
+            Fault::Regions(fault) => return fault.perform(call, kept, answer),
             _ => (),
         }
         let before = kept.copy();
