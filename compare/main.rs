@@ -85,6 +85,7 @@ fn compare(seed: u64, wrong: Option<Wrong>) -> ExitCode {
     phases::ranges::cases::cases(&mut checker);
     phases::regions::cases::cases(&mut checker);
     phases::events::cases::cases(&mut checker);
+    phases::regions::regions(&mut checker);
     phases::hyp::hyp(&mut checker);
     phases::events::events(&mut checker);
     phases::limits::limits(&mut checker);
@@ -92,7 +93,6 @@ fn compare(seed: u64, wrong: Option<Wrong>) -> ExitCode {
     phases::pending::pending(&mut checker);
     phases::upper::upper(&mut checker);
     phases::doubles::doubles(&mut checker);
-    phases::regions::regions(&mut checker);
     phases::ranges::ranges(&mut checker);
     phases::commands::sweeps(&mut checker);
     phases::formats::sweeps(&mut checker);

@@ -49,13 +49,26 @@ fn lent(faults: u32) -> (Vec<u64>, Vec<u64>) {
     (kept, table)
 }
 
+/// What makes the control word that of a queue that is off, or held by an error, or
+/// empty.
+const OFF: u64 = 1 << 49;
+const HELD: u64 = 1 << 47 | 1 << 40;
+const EMPTY: u64 = 1 << 20;
+
 /// Runs try 1, 2, 3, 13, 14 and then 4, whatever the run would end with.
 fn runs(checker: &mut Checker, faults: u32) {
     let (kept, table) = lent(faults);
     let queue = bytes(&vec![(0x70, 0); 1 + (faults >> 5) as usize]);
-    for (off, features, allowance) in [(0, ALL, u64::MAX), (1 << 49, ALL, 0), (0, 0, 1)] {
+    for (change, features, allowance) in [
+        (0, ALL, u64::MAX),
+        (0, ALL, 0),
+        (0, 0, 1),
+        (OFF, ALL, 0),
+        (HELD, ALL, u64::MAX),
+        (EMPTY, 0, 0),
+    ] {
         let mut kept = kept.clone();
-        kept[0] ^= off;
+        kept[0] ^= change;
         let call = run(&queue, features, allowance);
         let number = first(faults, &[1, 2, 3, 13, 14, 4]);
         refused(checker, (&kept, &table), call, number);
