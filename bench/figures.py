@@ -143,15 +143,14 @@ def print_ranges(folder, by_letter):
 
 
 def print_regions(folder, by_letter):
-    """What the second table costs a run that has no command for it: l over e, and m over b, once a run."""
-    for_run = {letter: Counts(folder, "once", letter, "unit", by_letter[letter]["rows"]).all for letter in "elbm"}
-    off, full = for_run["l"] - for_run["e"], for_run["m"] - for_run["b"]
-    times = {letter: Times(folder, letter, *MODELS).unit.middle * by_letter[letter]["parts"] for letter in "elbm"}
+    """What the second table costs a run that has no command for it: l beside e, and m beside b."""
+    counts = {letter: Counts(folder, "once", letter, "unit", by_letter[letter]["rows"]).all for letter in "elbm"}
+    times = {letter: number(Times(folder, letter, *MODELS).unit.middle) for letter in "elbm"}
     print(
-        f"\n**The second table costs a run its check, once**: a full one instead of an empty row adds {off:,} instructions to "
-        f"e, which has no commands, and {full:,} to b, which has {by_letter['b']['parts']}, none of them 70 or 73. In time these are "
-        f"{number(times['l'] - times['e'])} ns of {number(times['l'])} in l, and {number(times['m'] - times['b'])} ns of "
-        f"{number(times['m'])} in m."
+        f"\n**The second table costs a run its check, once**: a full one instead of an empty row adds {counts['l'] - counts['e']:,} "
+        f"instructions to e, which has no command, and {counts['m'] - counts['b']:,} to b, which has {by_letter['b']['parts']}, none "
+        f"of them 70 or 73. The call takes {times['l']} ns in l, beside {times['e']} in e, and a command {times['m']} in m, beside "
+        f"{times['b']} in b."
     )
 
 
