@@ -22,6 +22,8 @@ pub enum Fault {
     Told(fn(&Asked, u64) -> u64),
     /// 70 and 73 take rows that lie so, by their number too.
     Takes(fn(&Asked, usize, &Region) -> bool),
+    /// The same of 73 alone.
+    Some(fn(&Asked, usize, &Region) -> bool),
     /// A run stores to either table in another way.
     Stores(stores::Fault),
     /// 13 and 14 are given otherwise.
@@ -67,7 +69,7 @@ impl Fault {
     pub fn perform(self, call: Call, memory: &mut Memory, answer: &mut Lent) -> u64 {
         match (self, call) {
             (Fault::Told(told), Call::Run { .. }) => retold(call, memory, answer, told),
-            (Fault::Reads(_) | Fault::Takes(_), Call::Run { .. }) => {
+            (Fault::Reads(_) | Fault::Takes(_) | Fault::Some(_), Call::Run { .. }) => {
                 one_by_one(call, memory, answer, |call, slot, memory, answer| {
                     self.command(call, slot, memory, answer)
                 })
@@ -86,6 +88,9 @@ impl Fault {
             Fault::Reads(read) => with(call, (read(asked), slot), |call| {
                 unit::perform(call, memory, answer)
             }),
+            Fault::Some(takes) if asked.code() == 0x73 => {
+                Fault::Takes(takes).command(call, slot, memory, answer)
+            }
             Fault::Takes(takes) if asked.takes() => {
                 let spared = |&(row, region): &(usize, Region)| !takes(&asked, row, &region);
                 let spared: Vec<usize> = regions(memory.table())

@@ -32,7 +32,7 @@ fn page(row: u64) -> u64 {
     MIDDLE + row * size(0)
 }
 
-/// A page for each row, the lowest last.
+/// A page for each row, every second one last-level.
 fn pages(rows: u64) -> Vec<Pair> {
     (0..rows)
         .map(|row| region(0, row % 2 == 0, page(row)))

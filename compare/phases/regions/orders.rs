@@ -114,7 +114,10 @@ fn named(checker: &mut Checker) {
     let mut one = |table: Vec<Pair>, lowest: u64| {
         let kept = with_rows(waiting(0, 1), &[[0; 4]]);
         let table = with_regions(&table);
-        for call in [run(&queue, ALL, u64::MAX), fill(0, table_words(0), 2)] {
+        for call in [
+            run(&queue, ALL, u64::MAX),
+            fill(0, region(0, true, MIDDLE), 2),
+        ] {
             let mut after = kept.clone();
             let reply = checker.both(&mut after, &mut table.clone(), call);
             let met = (reply.number, reply.answer[0]) == (14, lowest);
@@ -138,8 +141,4 @@ fn named(checker: &mut Checker) {
         table[rows as usize - 1] = bad[rows as usize % bad.len()];
         one(table, rows - 1);
     }
-}
-
-fn table_words(code: u64) -> Pair {
-    region(code, true, MIDDLE)
 }

@@ -4,6 +4,7 @@
 use super::Fault as Wrong;
 use crate::call::{Call, NAMES};
 use crate::generate::commands::DPT;
+use crate::generate::random::Random;
 use crate::generate::regions::SIZES;
 use crate::lent::{Lent, Memory};
 use crate::limits::{table_words, ADDRESS, REGIONS};
@@ -350,11 +351,7 @@ fn applies(call: Call, before: &Memory, number: u64) -> bool {
 /// The call on a table that is seen otherwise; what is stored is stored in the one that
 /// is there.
 fn seen(call: Call, memory: &mut Memory, answer: &mut Lent, table: &[u64]) -> u64 {
-    let mut copy = Memory::new(
-        memory.inner(),
-        table,
-        &mut crate::generate::random::Random::new(0),
-    );
+    let mut copy = Memory::new(memory.inner(), table, &mut Random::new(0));
     let number = unit::perform(call, &mut copy, answer);
     memory.inner_mut().copy_from_slice(copy.inner());
     let stored = copy.table().iter().zip(table);

@@ -8,7 +8,7 @@ use crate::model::region::Region;
 
 type Takes = fn(&Asked, usize, &Region) -> bool;
 
-/// Those of code 73; 70 is right in them.
+/// Those of code 73.
 const SOME: [(&str, Takes); 42] = [
     ("nothing", |_, _, _| false),
     ("everything", |_, _, _| true),
@@ -141,17 +141,15 @@ const SOME: [(&str, Takes); 42] = [
     ("nothing that ends at 2^52", |it, _, row| {
         right(it, row) && end(row) != ADDRESS
     }),
-    ("a row that ends there", |it, _, row| {
+    ("a larger row that ends there", |it, _, row| {
         let ends = it.start() < end(row) && end(row) <= it.limit();
-        it.whole() && level(it, row) && fits(it, row) && ends
-            || right(it, row)
-            || ends && it.whole()
+        right(it, row) || it.whole() && level(it, row) && ends
     }),
     ("512GB spared", |it, _, row| {
         right(it, row) && row.0[0] >> 2 != 9
     }),
-    ("4KB spared", |it, _, row| {
-        right(it, row) && row.0[0] >> 2 != 0 || right(it, row) && it.size() == 0
+    ("4KB spared, but by its own size", |it, _, row| {
+        right(it, row) && (row.0[0] >> 2 != 0 || it.size() == 0)
     }),
     ("SIZE 9 takes nothing", |it, _, row| {
         right(it, row) && it.size() != 9
@@ -225,13 +223,13 @@ const OTHER_SIZES: [(&str, [u64; 10]); 12] = [
 pub fn all() -> Vec<(String, Fault)> {
     let mut all = Vec::new();
     for (name, takes) in SOME {
-        all.push((format!("73: {name}"), Fault::Takes(takes)));
+        all.push((format!("73: {name}"), Fault::Some(takes)));
     }
     for (name, takes) in ALL {
         all.push((name.into(), Fault::Takes(takes)));
     }
     for (name, takes) in SIZED {
-        all.push((format!("73: {name}"), Fault::Takes(takes)));
+        all.push((format!("73: {name}"), Fault::Some(takes)));
     }
     all
 }
@@ -247,10 +245,9 @@ macro_rules! sized {
 const SIZED: [(&str, Takes); OTHER_SIZES.len()] = sized!(0, 1, 2, 3, 4, 5, 6, 7, 8, 9, 10, 11);
 
 fn by_sizes(asked: &Asked, row: &Region, sizes: &[u64; 10]) -> bool {
-    match (asked.code(), sizes.get(asked.size() as usize)) {
-        (0x70, _) => true,
-        (_, None) => false,
-        (_, Some(size)) => {
+    match sizes.get(asked.size() as usize) {
+        None => false,
+        Some(size) => {
             let (bytes, own) = (1 << size, end(row) - row.base());
             let whole = asked.start() % bytes == 0;
             whole && level(asked, row) && own <= bytes && within(row, asked.start(), bytes)
@@ -284,7 +281,7 @@ fn fits(asked: &Asked, row: &Region) -> bool {
 }
 
 fn level(asked: &Asked, row: &Region) -> bool {
-    asked.code() == 0x73 && (row.last_level() || asked.high & 1 == 0)
+    row.last_level() || asked.high & 1 == 0
 }
 
 impl Asked {
@@ -307,6 +304,6 @@ impl Asked {
 
     /// Whether the address is a multiple of a size that there is.
     fn whole(&self) -> bool {
-        self.code() == 0x73 && self.start().checked_rem(self.bytes()) == Some(0)
+        self.start().checked_rem(self.bytes()) == Some(0)
     }
 }

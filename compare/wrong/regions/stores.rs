@@ -5,6 +5,7 @@ use super::super::asked::Asked;
 use super::super::seen::one_by_one;
 use super::Fault as Wrong;
 use crate::call::{Call, CUT};
+use crate::generate::random::Random;
 use crate::lent::{Lent, Memory};
 use crate::model::control::Control;
 use crate::model::image::{place, rows};
@@ -302,7 +303,7 @@ fn with_left(call: Call, left: u64) -> Call {
 /// The stores that the unit makes for a command for the table, in their order.
 fn due(call: Call, memory: &Memory) -> Vec<Due> {
     let mut copy = memory.copy();
-    let mut told = Lent::new(&[0; 8], &mut crate::generate::random::Random::new(0));
+    let mut told = Lent::new(&[0; 8], &mut Random::new(0));
     unit::perform(with_left(call, u64::MAX), &mut copy, &mut told);
     let pairs = regions(memory.table())
         .zip(regions(copy.table()))
