@@ -346,36 +346,31 @@ untouched n m = record { kept = λ p x y. refl; table = λ p y. refl; long = siz
 
 pub untouched-stored : (n : ℕ) (m m′ : Memory) (v : ℕ) → Untouched n (stored m v) m′ → Untouched n m m′
 untouched-stored n m m′ v u =
-    let rows = same-kept-rows (size-stored m v) in
+    let s = size-stored m v in
     record {
-      kept = λ p x y. u .kept p x (λ i h. y i (omega (arith, h, rows))) ∙ getD-set-other (m .kept) 0 p v 0 x;
-      table = u .table;
-      long = size-through (u .long) (size-stored m v);
+      kept = λ p x y. u .kept p x (λ i h e. y i h (sym (same-side s i) ∙ e)) ∙ getD-set-other (m .kept) 0 p v 0 x;
+      table = λ p y. u .table p (λ i h e q. y i h (sym (same-side s i) ∙ e) (q ∙ ap (λ (k : ℕ). 2 * k) (same-behind s i)));
+      long = size-through (u .long) s;
     }
 
-pub untouched-cleared : (n : ℕ) (m m′ : Memory) (i : ℕ) → i < rowsIn m → Untouched n (cleared m i) m′ → Untouched n m m′
+pub untouched-cleared : (n : ℕ) (m m′ : Memory) (i : ℕ) → i < n → Untouched n (cleared m i) m′ → Untouched n m m′
 untouched-cleared n m m′ i h u =
     record {
-      kept = λ p x y. u .kept p x (λ j l. y j (omega (arith, l, rows))) ∙ other p y (kept-or-behind m i);
-      table = λ p y. u .table p (λ j l. y j (omega (arith, l, more))) ∙ behind-other p y (kept-or-behind m i);
-      long = size-through (u .long) (size-cleared m i);
+      kept = λ p x y. u .kept p x (λ j l e. y j l (sym (same-side s j) ∙ e)) ∙ other p y (kept-or-behind m i);
+      table = λ p y. u .table p (λ j l e q. y j l (sym (same-side s j) ∙ e) (q ∙ ap (λ (k : ℕ). 2 * k) (same-behind s j))) ∙ behind-other p y (kept-or-behind m i);
+      long = size-through (u .long) s;
     }
   where
-    rows : keptRows (cleared m i) ≡ keptRows m
-    rows = same-kept-rows (size-cleared m i)
+    s : SameSize (cleared m i) m
+    s = size-cleared m i
 
-    more : tableRows (cleared m i) ≡ tableRows m
-    more = same-table-rows (size-cleared m i)
-
-    other : (p : ℕ) → ((j : ℕ) → j < keptRows m → p ≡ 4 * j + 1 → ⊥) → (isKept m i ≡ true) ⊎ (isKept m i ≡ false) → getD (cleared m i .kept) p 0 ≡ getD (m .kept) p 0
-    other p y (inl e) = ap (λ (x : Memory). getD (x .kept) p 0) (cleared-kept m i e) ∙ getD-set-other (m .kept) (4 * i + 1) p 0 0 (λ q. y i (kept-below m i e) q)
+    other : (p : ℕ) → ((j : ℕ) → j < n → isKept m j ≡ true → p ≡ 4 * j + 1 → ⊥) → (isKept m i ≡ true) ⊎ (isKept m i ≡ false) → getD (cleared m i .kept) p 0 ≡ getD (m .kept) p 0
+    other p y (inl e) = ap (λ (x : Memory). getD (x .kept) p 0) (cleared-kept m i e) ∙ getD-set-other (m .kept) (4 * i + 1) p 0 0 (λ q. y i h e q)
     other p y (inr e) = ap (λ (x : Memory). getD (x .kept) p 0) (cleared-behind m i e)
 
-    behind-other : (p : ℕ) → ((j : ℕ) → j < tableRows m → p ≡ 2 * j → ⊥) → (isKept m i ≡ true) ⊎ (isKept m i ≡ false) → getD (cleared m i .table) p 0 ≡ getD (m .table) p 0
+    behind-other : (p : ℕ) → ((j : ℕ) → j < n → isKept m j ≡ false → p ≡ 2 * behind m j → ⊥) → (isKept m i ≡ true) ⊎ (isKept m i ≡ false) → getD (cleared m i .table) p 0 ≡ getD (m .table) p 0
     behind-other p y (inl e) = ap (λ (x : Memory). getD (x .table) p 0) (cleared-kept m i e)
-    behind-other p y (inr e) =
-        ap (λ (x : Memory). getD (x .table) p 0) (cleared-behind m i e)
-        ∙ getD-set-other (m .table) (2 * behind m i) p 0 0 (λ q. y (behind m i) (omega (arith, h, behind-from m i e)) q)
+    behind-other p y (inr e) = ap (λ (x : Memory). getD (x .table) p 0) (cleared-behind m i e) ∙ getD-set-other (m .table) (2 * behind m i) p 0 0 (λ q. y i h e q)
 
 -- a row whose word 0 is as it was is in the scopes that it was in
 pub same-scopes : (f : Features) (c : Command) (n : ℕ) (m m′ : Memory) → Untouched n m m′ → (i : ℕ) → word0 m′ i ≡ word0 m i → scopedAt f c m′ i ≡ scopedAt f c m i
@@ -386,7 +381,7 @@ same-scopes f c n m m′ u i w = same-scope m m′ i (record { size = u .long; k
       where
         by-word : Dec (q ≡ 1) → getD (m′ .kept) (4 * i + q) 0 ≡ getD (m .kept) (4 * i + q) 0
         by-word (yes s) = rw s (sym (word-kept m′ i (same-side (u .long) i ∙ e)) ∙ w ∙ word-kept m i e)
-        by-word (no d) = u .kept (4 * i + q) (omega arith) (λ j l p. d (omega arith))
+        by-word (no d) = u .kept (4 * i + q) (omega arith) (λ j l e p. d (omega arith))
 
     in-second : isKept m i ≡ false → (q : ℕ) → q ≤ 1 → getD (m′ .table) (2 * behind m i + q) 0 ≡ getD (m .table) (2 * behind m i + q) 0
     in-second e q a = by-word (ℕ-discrete q 0)
@@ -396,7 +391,7 @@ same-scopes f c n m m′ u i w = same-scope m m′ i (record { size = u .long; k
             let z : 2 * behind m i + q ≡ 2 * behind m i = omega arith in
             rw z
             (ap (λ (k : ℕ). getD (m′ .table) (2 * k) 0) (sym (same-behind (u .long) i)) ∙ sym (word-behind m′ i (same-side (u .long) i ∙ e)) ∙ w ∙ word-behind m i e)
-        by-word (no d) = u .table (2 * behind m i + q) (λ j l p. d (omega arith))
+        by-word (no d) = u .table (2 * behind m i + q) (λ j l e p. d (omega arith))
 
 -- used rows
 module _ (m : Memory) (n : ℕ) where

@@ -2,7 +2,7 @@
 -- number, those of the second table behind those of the first. What a run and the demands say of memory they say in these names.
 -- Assumes nothing.
 use mathlib.Core.Path.{_≡_}
-use mathlib.Core.Bool.{Bool, not}
+use mathlib.Core.Bool.{Bool, true, false, not}
 use mathlib.Core.List.{List}
 use Prim.Native.Nat.{ℕ, _+_, _-_, _*_, _≤_, _<_}
 use lib.Dec.{eqb, ltb}
@@ -92,6 +92,6 @@ pub record SameSize (m m′ : Memory) : Type 0 where
 
 -- every word but the control word and word 0 of each of n rows is as it was
 pub record Untouched (n : ℕ) (m m′ : Memory) : Type 0 where
-  pub kept : (p : ℕ) → (p ≡ 0 → ⊥) → ((i : ℕ) → i < keptRows m → p ≡ 4 * i + 1 → ⊥) → getD (m′ .kept) p 0 ≡ getD (m .kept) p 0
-  pub table : (p : ℕ) → ((i : ℕ) → i < tableRows m → p ≡ 2 * i → ⊥) → getD (m′ .table) p 0 ≡ getD (m .table) p 0
+  pub kept : (p : ℕ) → (p ≡ 0 → ⊥) → ((i : ℕ) → i < n → isKept m i ≡ true → p ≡ 4 * i + 1 → ⊥) → getD (m′ .kept) p 0 ≡ getD (m .kept) p 0
+  pub table : (p : ℕ) → ((i : ℕ) → i < n → isKept m i ≡ false → p ≡ 2 * behind m i → ⊥) → getD (m′ .table) p 0 ≡ getD (m .table) p 0
   pub long : SameSize m′ m

@@ -109,7 +109,7 @@ module _ (f : Features) (queue : List ℕ) (n : ℕ) where
         gone = λ t h. from-cleared word t (later .gone t h);
         illegal = λ r. ap (λ (w : ℕ). isIllegal (commandAt f queue w k)) (sym word) ∙ later .illegal r;
         early = λ j h. each here word empty j h (ℕ-discrete j i) (later .early j h);
-        others = memory.untouched-cleared n m m₂ i (low .below) (later .others);
+        others = memory.untouched-cleared n m m₂ i (rw (memory.rows-are m n a) at (low .below)) (later .others);
       }
     where
       from-cleared : controlOf (cleared m i) ≡ controlOf m → (t : ℕ) → Consumed f queue n (cleared m i) m₂ t → Consumed f queue n m m₂ t

@@ -76,7 +76,7 @@ module _ (f : Features) (queue : List ℕ) (c : Command) where
             control-word = w .control-word ∙ ap (afterCommand (Legal c)) (memory.control-cleared m i);
             gone = λ j h q. went w empty out j h q (ℕ-discrete j i);
             spared = λ j h q. stays w low j h q (ℕ-discrete j i);
-            others = memory.untouched-cleared n m (x .after) i (low .below) (w .others);
+            others = memory.untouched-cleared n m (x .after) i below (w .others);
           };
           goes-on = λ k. rw (suc-add s k, is-remove m i on legal e)
               (ap (plus 0 1 1 0) (x .goes-on k) ∙ plus-plus 0 1 1 0 1 (suc s) s (syncsOf (Legal c)) 1 (suc (suc s)) (suc s) (syncsOf (Legal c)) _ refl (omega arith) (omega arith) (omega arith));
