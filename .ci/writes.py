@@ -13,7 +13,7 @@ import sys
 
 STORES = {
     # to kept memory, of which a call makes at most one
-    ('due', 'step'): 3,
+    ('due', 'step'): 4,
     ('fills', 'step'): 1,
     ('control_calls', 'doorbell'): 1,
     ('control_calls', 'acknowledge'): 1,
@@ -23,6 +23,7 @@ STORES = {
     ('event_calls', 'drop_one'): 1,
     ('event_calls', 'read'): 1,
     ('event_calls', 'acknowledge'): 1,
+    ('region_fills', 'step'): 1,
     # to other memory: the words of an answer, lent fields, an array of its caller's
     ('host', 'tell'): 1,
     ('registers', 'acknowledge'): 1,

@@ -142,6 +142,18 @@ def print_ranges(folder, by_letter):
     )
 
 
+def print_regions(folder, by_letter):
+    """What the second table costs a run that has no command for it: l beside e, and m beside b."""
+    counts = {letter: Counts(folder, "once", letter, "unit", by_letter[letter]["rows"]).all for letter in "elbm"}
+    times = {letter: number(Times(folder, letter, *MODELS).unit.middle) for letter in "elbm"}
+    print(
+        f"\n**The second table costs a run its check, once**: a full one instead of an empty row adds {counts['l'] - counts['e']:,} "
+        f"instructions to e, which has no command, and {counts['m'] - counts['b']:,} to b, which has {by_letter['b']['parts']}, none "
+        f"of them 70 or 73. The call takes {times['l']} ns in l, beside {times['e']} in e, and a command {times['m']} in m, beside "
+        f"{times['b']} in b."
+    )
+
+
 def main(folder):
     all_cases = cases(folder)
     by_letter = {case["case"]: case for case in all_cases}
@@ -156,6 +168,7 @@ def main(folder):
     print_check(folder, by_letter)
     print_limits(folder, by_letter)
     print_ranges(folder, by_letter)
+    print_regions(folder, by_letter)
 
 
 if __name__ == "__main__":

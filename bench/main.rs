@@ -44,7 +44,7 @@ mod verify;
 #[path = "../compare/generate/world.rs"]
 mod world;
 
-use cases::{Case, ENABLED};
+use cases::{Case, Lent, ENABLED};
 use sides::{Side, MODEL, UNIT};
 use std::process::ExitCode;
 use verify::Totals;
@@ -59,7 +59,7 @@ fn describe(cases: &[Case]) -> Result<(), String> {
     let seen = verified(cases)?;
     println!("case\twhat\tper\tcalls\tparts\trows\tremoved");
     for (case, totals) in cases.iter().zip(&seen) {
-        let (calls, parts, rows) = (case.calls(), case.parts(), case.kept.len() / 4);
+        let (calls, parts, rows) = (case.calls(), case.parts(), case.lent.kept.len() / 4);
         let (letter, what, per, removed) = (case.letter, case.what, case.per(), totals.removed);
         println!("{letter}\t{what}\t{per}\t{calls}\t{parts}\t{rows}\t{removed}");
     }
@@ -78,12 +78,13 @@ fn time(cases: &[Case]) -> Result<(), String> {
     Ok(())
 }
 
-/// The words of kept memory that a count is made on.
-fn cut(case: &Case, rows: &str, clear: u64) -> Option<Vec<u64>> {
+/// The kept memory that a count is made on, and the whole second table.
+fn cut(case: &Case, rows: &str, clear: u64) -> Option<Lent> {
     let rows: usize = rows.parse().ok()?;
-    let mut kept = case.kept.get(..1 + 4 * rows)?.to_vec();
+    let mut kept = case.lent.kept.get(..1 + 4 * rows)?.to_vec();
     kept[0] &= !clear;
-    Some(kept)
+    let table = case.lent.table.clone();
+    Some(Lent { kept, table })
 }
 
 fn once(cases: &[Case], [letter, side, rows]: [&str; 3], clear: u64) -> Result<(), String> {
@@ -94,9 +95,9 @@ fn once(cases: &[Case], [letter, side, rows]: [&str; 3], clear: u64) -> Result<(
         "model" => &MODEL,
         _ => return Err("no such side".into()),
     };
-    let kept = cut(case, rows, clear).ok_or("no such number of rows")?;
+    let lent = cut(case, rows, clear).ok_or("no such number of rows")?;
     for call in 0..case.calls() {
-        side.call(case, call, &mut kept.clone());
+        side.call(case, call, &mut lent.clone());
     }
     Ok(())
 }

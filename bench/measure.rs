@@ -5,7 +5,7 @@
 //! changes times as well, and it's another place at every start of the program;
 //! so each place is measured apart.
 
-use crate::cases::Case;
+use crate::cases::{Case, Lent};
 use crate::sides::{Side, MODEL, UNIT};
 use crate::stack::{at_place, LOOK, PLACES};
 use crate::verify::Totals;
@@ -36,7 +36,7 @@ impl Bests {
     /// Both sides again and again, each going first half the time; at least once.
     #[inline(never)]
     fn turn(&mut self, sides: [&Side; 2], case: &Case, repeats: u32, turn: Duration) {
-        let mut memory = case.kept.clone();
+        let mut memory = case.lent.clone();
         let mut first = 0;
         let start = Instant::now();
         loop {
@@ -57,9 +57,9 @@ impl Bests {
 }
 
 /// Once through the case's calls. The memory is restored before the clock is read.
-fn sample(bests: &mut [Duration], side: &Side, case: &Case, repeats: u32, memory: &mut [u64]) {
+fn sample(bests: &mut [Duration], side: &Side, case: &Case, repeats: u32, memory: &mut Lent) {
     for (call, best) in bests.iter_mut().enumerate() {
-        memory.copy_from_slice(&case.kept);
+        memory.restore(&case.lent);
         let start = Instant::now();
         for _ in 0..repeats {
             side.call(case, call, memory);

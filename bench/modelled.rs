@@ -15,6 +15,8 @@ use std::slice;
 pub unsafe extern "C" fn model_run(
     kept: *mut u64,
     words: usize,
+    table: *mut u64,
+    table_words: usize,
     queue: *const u8,
     bytes: usize,
     features: u64,
@@ -22,9 +24,10 @@ pub unsafe extern "C" fn model_run(
     answer: *mut u64,
 ) -> u64 {
     let kept = slice::from_raw_parts_mut(kept, words);
+    let table = slice::from_raw_parts_mut(table, table_words);
     let queue = slice::from_raw_parts(queue, bytes);
     let features = Features::from_bits(features);
-    let report = run(kept, queue, features, allowance, |_, _| ());
+    let report = run(kept, table, queue, features, allowance, |_, _| ());
     tell(report.map(ran), answer)
 }
 

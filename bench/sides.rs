@@ -1,16 +1,27 @@
 //! The unit and the model behind functions of one shape, that of the C interface.
 
 use crate::call::Reply;
-use crate::cases::{Case, Work};
+use crate::cases::{Case, Lent, Work};
 use crate::interface::{tahvenno_fill, tahvenno_run, tahvenno_translate};
 use crate::modelled::{model_fill, model_run, model_translate};
 use std::hint::black_box;
 
-pub type Run = unsafe extern "C" fn(*mut u64, usize, *const u8, usize, u64, u64, *mut u64) -> u64;
+pub type Run = unsafe extern "C" fn(
+    *mut u64,
+    usize,
+    *mut u64,
+    usize,
+    *const u8,
+    usize,
+    u64,
+    u64,
+    *mut u64,
+) -> u64;
 pub type Translate =
     unsafe extern "C" fn(*const u64, usize, u32, u32, u64, u64, u64, u64, u64, *mut u64) -> u64;
 
-pub type Fill = unsafe extern "C" fn(*mut u64, usize, u64, u64, u64, u64, u64, u64, *mut u64) -> u64;
+pub type Fill =
+    unsafe extern "C" fn(*mut u64, usize, u64, u64, u64, u64, u64, u64, *mut u64) -> u64;
 
 pub struct Side {
     pub run: Run,
@@ -34,28 +45,32 @@ impl Side {
     /// One call of a case. Not inlined, and through a hidden pointer, so that the
     /// compiler can't fit the model's code, which it sees, to one input.
     #[inline(never)]
-    pub fn call(&self, case: &Case, call: usize, kept: &mut [u64]) -> Reply {
+    pub fn call(&self, case: &Case, call: usize, lent: &mut Lent) -> Reply {
         let mut answer = [u64::MAX; 8];
-        let (memory, words, told) = (kept.as_mut_ptr(), kept.len(), answer.as_mut_ptr());
+        let (memory, words) = (lent.kept.as_mut_ptr(), lent.kept.len());
+        let (table, rows) = (lent.table.as_mut_ptr(), lent.table.len());
+        let told = answer.as_mut_ptr();
         // SAFETY: the pointers come from live borrows of the lengths given beside
         // them, eight words for the answer, and no two overlap.
         let number = unsafe {
             match &case.work {
                 Work::Runs { queues, features } => {
                     let (first, bytes) = (queues[call].as_ptr(), queues[call].len());
-                    black_box(self.run)(memory, words, first, bytes, *features, u64::MAX, told)
+                    black_box(self.run)(
+                        memory,
+                        words,
+                        table,
+                        rows,
+                        first,
+                        bytes,
+                        *features,
+                        u64::MAX,
+                        told,
+                    )
                 }
-                Work::Fill(row, [w0, w1, w2, w3]) => black_box(self.fill)(
-                    memory,
-                    words,
-                    *row,
-                    *w0,
-                    *w1,
-                    *w2,
-                    *w3,
-                    u64::MAX,
-                    told,
-                ),
+                Work::Fill(row, [w0, w1, w2, w3]) => {
+                    black_box(self.fill)(memory, words, *row, *w0, *w1, *w2, *w3, u64::MAX, told)
+                }
                 Work::Translate(asked) => black_box(self.translate)(
                     memory,
                     words,

@@ -22,6 +22,8 @@ pub const LOOK: Side = Side {
 unsafe extern "C" fn look_run(
     _: *mut u64,
     _: usize,
+    _: *mut u64,
+    _: usize,
     _: *const u8,
     _: usize,
     _: u64,

@@ -8,7 +8,7 @@ use crate::sides::{MODEL, UNIT};
 pub struct Totals {
     pub consumed: u64,
     pub removed: u64,
-    /// Whether a call stored to the kept memory, so that it has to be restored.
+    /// Whether a call stored to what it was lent, so that this has to be restored.
     pub stored: bool,
 }
 
@@ -17,7 +17,7 @@ pub struct Totals {
 pub fn same(case: &Case) -> Result<Totals, String> {
     let mut totals = Totals::default();
     for call in 0..case.calls() {
-        let (mut ours, mut theirs) = (case.kept.clone(), case.kept.clone());
+        let (mut ours, mut theirs) = (case.lent.clone(), case.lent.clone());
         let unit = UNIT.call(case, call, &mut ours);
         let model = MODEL.call(case, call, &mut theirs);
         if unit != model || ours != theirs {
@@ -29,7 +29,7 @@ pub fn same(case: &Case) -> Result<Totals, String> {
         if unit.number != 0 || answer[0] != case.end {
             return Err(format!("call {call} ends otherwise: {unit:x?}"));
         }
-        totals.stored |= ours != case.kept;
+        totals.stored |= ours != case.lent;
         if case.per == Per::Command {
             totals.consumed += answer[1];
             totals.removed += answer[3];

@@ -5,15 +5,18 @@
 
 #include "tahvenno.h"
 
-const char *const CALL_NAMES[CALLS] = {"run",       "fill",  "doorbell",    "acknowledge", "enable",           "clear_pending",
-                                       "translate", "state", "event_write", "event_read",  "event_acknowledge"};
+const char *const CALL_NAMES[CALLS] = {"run",       "fill",  "doorbell",   "acknowledge", "enable",     "clear_pending",
+                                       "translate", "state", "table_fill", "event_write", "event_read", "event_acknowledge"};
 
 void make_call(const struct call *call, const struct input *input, uint64_t *kept, const uint8_t *queue, struct outcome *outcome) {
     const struct access *access = &call->access;
-    size_t words = input->words;
+    size_t words = input->words, table_words = input->table_words;
+    uint64_t *table = kept + TABLE_AT;
     uint64_t *answer = outcome->answer, returned = 0;
     switch (call->which) {
-    case RUN: returned = tahvenno_run(kept, words, queue, input->bytes, input->features, call->allowance, answer); break;
+    case RUN:
+        returned = tahvenno_run(kept, words, table, table_words, queue, input->bytes, input->features, call->allowance, answer);
+        break;
     case FILL:
         returned = tahvenno_fill(kept, words, call->row, call->w[0], call->w[1], call->w[2], call->w[3], call->allowance, answer);
         break;
@@ -26,6 +29,9 @@ void make_call(const struct call *call, const struct input *input, uint64_t *kep
                                       access->memattr, access->sh, access->hints, answer);
         break;
     case STATE: returned = tahvenno_state(kept, words, answer); break;
+    case TABLE_FILL:
+        returned = tahvenno_table_fill(kept, words, table, table_words, call->row, call->w[0], call->w[1], call->allowance, answer);
+        break;
     case EVENT_WRITE: returned = tahvenno_event_write(kept, words, queue, call->allowance, answer); break;
     case EVENT_READ: returned = tahvenno_event_read(kept, words, answer); break;
     case EVENT_ACKNOWLEDGE: returned = tahvenno_event_acknowledge(kept, words, answer); break;
@@ -69,11 +75,29 @@ static void aim(struct dice *dice, const struct input *input, struct access *acc
     }
 }
 
+/* The row of a fill of the second table: an empty one, if there is one, more often than not; and its words. */
+static void any_table_fill(struct dice *dice, const struct input *input, struct call *call) {
+    uint64_t rows = input->table_words / 2;
+    call->row = below(dice, rows + 1);
+    for (uint64_t tries = 0; tries < rows && below(dice, 8); tries++) {
+        if (call->row < rows && input->kept[TABLE_AT + 2 * call->row] == 0) break;
+        call->row = (call->row + 1) % (rows + 1);
+    }
+    any_region(dice, call->w);
+    uint64_t spoil = below(dice, 8), bit = below(dice, 64);
+    if (spoil < 2) call->w[spoil] ^= UINT64_C(1) << bit;
+    if (spoil == 2) call->w[0] = 0;
+}
+
 void any_call(struct dice *dice, const struct input *input, enum which which, struct call *call) {
     uint64_t rows = (input->words - 1) / 4;
     memset(call, 0, sizeof *call);
     call->which = which;
     call->allowance = any_allowance(dice);
+    if (which == TABLE_FILL) {
+        any_table_fill(dice, input, call);
+        return;
+    }
     call->row = below(dice, rows + 1);
     for (uint64_t tries = 0; tries < rows && below(dice, 8); tries++) { /* an empty row, if there is one */
         if (call->row < rows && input->kept[1 + 4 * call->row] == 0) break;

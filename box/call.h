@@ -13,6 +13,7 @@ enum which {
     CLEAR_PENDING,
     TRANSLATE,
     STATE,
+    TABLE_FILL,
     EVENT_WRITE, /* those from here on are on a recorder */
     EVENT_READ,
     EVENT_ACKNOWLEDGE,
@@ -21,8 +22,8 @@ enum which {
 
 struct call {
     enum which which;
-    uint64_t allowance; /* run, fill, event write */
-    uint64_t row, w[4]; /* fill */
+    uint64_t allowance; /* run, either fill, event write */
+    uint64_t row, w[4]; /* fill; that of the second table has two words */
     uint64_t argument;  /* doorbell: WR; enable: on */
     struct access access;
 };
@@ -34,7 +35,7 @@ struct outcome {
 
 extern const char *const CALL_NAMES[CALLS];
 
-/* Makes a call on this memory and queue, with the input's lengths and features. */
+/* Makes a call on this memory, with the second table in it, and queue, with the input's lengths and features. */
 void make_call(const struct call *call, const struct input *input, uint64_t *kept, const uint8_t *queue, struct outcome *outcome);
 
 /* A call of this kind that fits the input, more often than not. */

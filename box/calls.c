@@ -1,8 +1,8 @@
 /* calls [SEED [COUNT]]: pseudo-random calls of the unit, and what comes of them as numbers that can be compared between machines.
  *
  * Accepted images and recorders, several calls in a row on each, and damaged ones; every call. Prints a hash over every number
- * returned, every answer and every word of kept memory, now and then while it goes on, and how often each call gave each number
- * and each end. Ends with 1 where a refusal or an end never came up, or a call wrote beside its memory. */
+ * returned, every answer and every word of kept memory and of the second table, now and then while it goes on, and how often each
+ * call gave each number and each end. Ends with 1 where a refusal or an end never came up, or a call wrote beside its memory. */
 #include <inttypes.h>
 #include <stdio.h>
 #include <stdlib.h>
@@ -13,8 +13,8 @@
 enum { REFUSALS = 19, ENDS = 6, MARK_EVERY = 10000 };
 
 /* What each call can return, a bit for each number, and how many ends its answer has. */
-static const unsigned RETURNS[CALLS] = {0x1F, 0xB8F, 0x2F, 0x4F, 0xF, 0x100F, 0x40F, 0xF, 0x18001, 0x38001, 0x58001};
-static const unsigned ENDS_OF[CALLS] = {5, 2, 0, 0, 0, 0, 6, 0, 3, 0, 0};
+static const unsigned RETURNS[CALLS] = {0x601F, 0xB8F, 0x2F, 0x4F, 0xF, 0x100F, 0x40F, 0xF, 0x638F, 0x18001, 0x38001, 0x58001};
+static const unsigned ENDS_OF[CALLS] = {5, 2, 0, 0, 0, 0, 6, 0, 2, 3, 0, 0};
 
 static uint64_t hash = UINT64_C(0xCBF29CE484222325), returned[CALLS][REFUSALS], ended[CALLS][ENDS];
 
@@ -29,10 +29,10 @@ static void stop(const char *why, enum which which) {
     exit(1);
 }
 
-/* Makes one call on memory with marked words on both sides, and takes everything that it left. */
+/* Makes one call on memory with marked words on both sides of it and of the second table, and takes everything that it left. */
 static void one(const struct call *call, struct input *input) {
     static const uint64_t mark = UINT64_C(0x5AFE5AFE5AFE5AFE);
-    uint64_t memory[ROOM + 2], *kept = memory + 1;
+    uint64_t memory[BOTH + 1], *kept = memory + 1, *table = kept + TABLE_AT;
     struct {
         uint64_t before;
         struct outcome outcome;
@@ -40,15 +40,20 @@ static void one(const struct call *call, struct input *input) {
     } told = {mark, {0, {mark, mark, mark, mark, mark, mark, mark, mark}}, mark};
     memory[0] = mark;
     memcpy(kept, input->kept, 8 * input->words);
+    memcpy(table, input->kept + TABLE_AT, 8 * input->table_words);
     kept[input->words] = mark;
+    table[-1] = table[input->table_words] = mark;
     make_call(call, input, kept, input->queue, &told.outcome);
     if (memory[0] != mark || kept[input->words] != mark) stop("wrote beside kept memory", call->which);
+    if (table[-1] != mark || table[input->table_words] != mark) stop("wrote beside the second table", call->which);
     if (told.before != mark || told.after != mark) stop("wrote beside its answer", call->which);
     if (told.outcome.returned >= REFUSALS || told.outcome.answer[0] == mark) stop("no such number", call->which);
     take(told.outcome.returned);
     for (int i = 0; i < 8; i++) take(told.outcome.answer[i]);
     for (size_t i = 0; i < input->words; i++) take(kept[i]);
+    for (size_t i = 0; i < input->table_words; i++) take(table[i]);
     memcpy(input->kept, kept, 8 * input->words);
+    memcpy(input->kept + TABLE_AT, table, 8 * input->table_words);
     returned[call->which][told.outcome.returned]++;
     if (ENDS_OF[call->which] && !told.outcome.returned) ended[call->which][told.outcome.answer[0] % ENDS]++;
 }

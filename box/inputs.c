@@ -21,8 +21,8 @@ uint64_t any_width(struct dice *dice) {
 
 #define PICK(dice, pool) ((pool)[below((dice), sizeof(pool) / sizeof(pool)[0])])
 
-const struct size LARGEST = {MOST_LOG2SIZE, MOST_ROWS};
-const struct size SMALL = {MOST_LOG2SIZE - 4, MOST_SLOTS / 16 / 2}; /* a sixteenth of the slots, half as many rows */
+const struct size LARGEST = {MOST_LOG2SIZE, MOST_ROWS, MOST_REGIONS};
+const struct size SMALL = {MOST_LOG2SIZE - 4, MOST_SLOTS / 16 / 2, 32}; /* a sixteenth of the slots, half as many rows */
 
 static const uint64_t STREAMS[] = {0, 1, 5, 0x40, 0x41, 0x100, 0x107, 0x3FF, 0x400, 0xFFFFFFFF};
 static const uint64_t SUBSTREAMS[] = {0, 1, 7, 0xFFFFF};
@@ -33,6 +33,9 @@ static const uint64_t PAGES[] = {0, 0x1000, 0x2000, 0x200000, 0x40000000, UINT64
 static const uint64_t TYPES[] = {0, 1, 2, 3, 5, 6, 7, 9, 10, 11, 13, 14, 15};
 static const uint64_t SHARES[] = {0, 2, 3};
 static const uint64_t CONFIGS[] = {0, 4, 5, 5, 6, 7, 7, 7};
+
+/* The sizes of regions by their code, as powers of two. */
+static const uint64_t REGION_SIZES[] = {12, 14, 16, 21, 25, 29, 30, 34, 36, 39};
 
 /* RA, WA and TR of the halves that are cacheable, the inner in bits 2:0. */
 static uint64_t hints_of(struct dice *dice, uint64_t memattr) {
@@ -104,6 +107,13 @@ void any_row(struct dice *dice, unsigned kind, int last, uint64_t row[4]) {
     else stage_row(dice, kind, last, row);
 }
 
+void any_region(struct dice *dice, uint64_t region[2]) {
+    static const uint64_t usual[] = {0, 0, 1, 3, 6};
+    uint64_t size = below(dice, 4) ? PICK(dice, usual) : below(dice, 10), last = below(dice, 3) ? 2 : 0;
+    region[0] = 1 | last | size << 2;
+    region[1] = PICK(dice, PAGES) >> REGION_SIZES[size] << REGION_SIZES[size];
+}
+
 /* The last address of a stage row; one past it may be 2^64. */
 static uint64_t last_of(const uint64_t row[4]) {
     return row[2] | ((UINT64_C(1) << (row[0] >> 5 & 63)) - 1);
@@ -156,10 +166,18 @@ static void add_range(uint64_t *low, uint64_t *high) {
     *high |= granule << 10 | level << 8 | (level ? below(&own, 2) << 7 : 0);
 }
 
+/* Address and SIZE of code 73: those of the lower half aligned to the size, the others as they are, with bits 55:52 set. */
+static uint64_t region_of(uint64_t page, uint64_t size) {
+    uint64_t shift = size < 10 ? REGION_SIZES[size] : 12;
+    if (page >= UPPER_HALF) return (page << 8 >> 8) | size << 8;
+    return page >> shift << shift | size << 8;
+}
+
 void any_command(struct dice *dice, uint64_t features, uint8_t slot[16]) {
     /* those that take few rows stand more often than the sweeping ones */
     static const uint64_t codes[] = {0x01, 0x02, 0x03, 0x03, 0x04, 0x05, 0x05, 0x06, 0x10, 0x11, 0x11, 0x11, 0x12, 0x12, 0x12, 0x13,
-                                     0x13, 0x20, 0x21, 0x21, 0x22, 0x22, 0x23, 0x23, 0x28, 0x2A, 0x2A, 0x2A, 0x30, 0x46, 0x46};
+                                     0x13, 0x20, 0x21, 0x21, 0x22, 0x22, 0x23, 0x23, 0x28, 0x2A, 0x2A, 0x2A, 0x30, 0x46, 0x46,
+                                     0x70, 0x73, 0x73, 0x73, 0x73};
     uint64_t code = PICK(dice, codes), low = 0, high = 0;
     uint64_t stream = PICK(dice, STREAMS) << 32, vmid = PICK(dice, VMIDS) << 32, asid = PICK(dice, ASIDS) << 48;
     uint64_t leaf = below(dice, 2), range = below(dice, 4) ? below(dice, 10) : below(dice, 32), page = any_page(dice);
@@ -177,6 +195,7 @@ void any_command(struct dice *dice, uint64_t features, uint8_t slot[16]) {
     case 0x22: low = asid; high = page | leaf; break;
     case 0x23: high = page | leaf; break;
     case 0x2A: low = vmid; high = (page & ~UPPER_HALF) | leaf; break;
+    case 0x73: high = region_of(page, range & 15) | leaf; break;
     case 0x46: low = below(dice, 3) << 12; high = roll(dice); break;
     }
     low |= code;
@@ -220,6 +239,16 @@ static void fill_queue(struct dice *dice, struct input *input, uint64_t slots, u
     }
 }
 
+/* So many rows of the second table, one in so many of them empty. The dice are its own, as for ranges. */
+static void fill_table(struct input *input, uint64_t rows, uint64_t empty) {
+    struct dice own = {~input->kept[0]};
+    input->table_words = 2 * rows;
+    for (uint64_t *row = input->kept + TABLE_AT; row < input->kept + TABLE_AT + 2 * rows; row += 2) {
+        any_region(&own, row);
+        if (below(&own, empty) == 0) row[0] = 0;
+    }
+}
+
 void any_input(struct dice *dice, struct input *input, struct size most, uint64_t rarity) {
     uint64_t log2size = below(dice, below(dice, 8) ? 5 : most.log2size + 1);
     uint64_t rows = 1 + below(dice, below(dice, 8) ? 24 : most.rows);
@@ -235,6 +264,8 @@ void any_input(struct dice *dice, struct input *input, struct size most, uint64_
     uint64_t both = roll(dice); /* one roll, as in any_control */
     if (both % 2) input->features |= E2H_SETTING;
     if (both >> 63) input->features |= RIL_FEATURE;
+    if (both >> 62 & 1) input->features |= DPT_FEATURE;
+    fill_table(input, 1 + (both >> 32) % (both >> 61 & 1 ? 12 : most.regions), 5);
     fill_queue(dice, input, UINT64_C(1) << log2size, rarity);
 }
 
@@ -245,7 +276,8 @@ static void start_full(struct input *input, struct size size) {
     input->kept[0] = control_word(2 * slots - 1, slots - 1, CMDQEN, size.log2size);
     input->words = 1 + 4 * size.rows;
     input->bytes = 16 * slots;
-    input->features = 15 | HYP_FEATURE | RIL_FEATURE;
+    input->features = 15 | HYP_FEATURE | RIL_FEATURE | DPT_FEATURE;
+    fill_table(input, size.regions, UINT64_MAX);
 }
 
 void full_input(struct dice *dice, struct input *input, struct size size, uint64_t rarity) {
@@ -264,11 +296,17 @@ void spread_input(struct input *input) {
         uint64_t vmid = slot / 4 * 7 % MOST_ROWS; /* each once, in another order than the rows' */
         put_command(input->queue + 16 * slot, slot % 4 ? 0x1046 : 0x10 | vmid << 32, 0);
     }
+    for (uint64_t row = 0; row < MOST_REGIONS; row++) { /* a page each, in another order than the rows' too */
+        input->kept[TABLE_AT + 2 * row] = 3;
+        input->kept[TABLE_AT + 2 * row + 1] = row << 12;
+        put_command(input->queue + 16 * (4 * (row * 31 % MOST_REGIONS) + 1), 0x73, row << 12);
+    }
 }
 
 void damage(struct dice *dice, struct input *input) {
     uint64_t row = below(dice, (input->words - 1) / 4), at = 1 + 4 * row, word = below(dice, 4);
-    switch (below(dice, 10)) {
+    uint64_t region = TABLE_AT + 2 * below(dice, input->table_words / 2);
+    switch (below(dice, 14)) {
     case 0: input->words += 1 + below(dice, 6); break;
     case 1: input->words -= 1 + below(dice, 4); break;
     case 2: case 3: input->kept[0] ^= UINT64_C(1) << below(dice, 64); break;
@@ -278,6 +316,10 @@ void damage(struct dice *dice, struct input *input) {
     case 7: input->bytes += below(dice, 2) ? 16 : UINT64_C(0) - 1; break;
     case 8: input->kept[at + 2 + word % 2] ^= UPPER_HALF; break;
     case 9: input->kept[at] ^= word % 2 ? EL2_MARK : E2H_MARK; break;
+    case 10: input->table_words = below(dice, 2) ? input->table_words - 1 : 2 * MOST_REGIONS + below(dice, 4); break;
+    case 11: input->kept[region] ^= UINT64_C(1) << below(dice, 64); break;
+    case 12: input->kept[region + 1] ^= UINT64_C(1) << below(dice, 64); break;
+    case 13: input->kept[region] |= UINT64_C(10) << 2; break;
     }
 }
 
@@ -307,6 +349,7 @@ void any_record(struct dice *dice, struct input *input) {
 void ring_input(struct dice *dice, struct input *input, uint64_t n, uint64_t rd, uint64_t held, uint64_t flags) {
     uint64_t slots = UINT64_C(1) << n;
     input->words = 1 + 4 * slots;
+    input->table_words = 0;
     input->kept[0] = rd | (rd + held) % (2 * slots) << WR_SHIFT | flags * OVERFLOW_FLAG | n << EVENTS_SHIFT;
     for (size_t i = 1; i < input->words; i++) input->kept[i] = roll(dice);
     any_record(dice, input);

@@ -1,7 +1,7 @@
 /* Inputs for the tests of the compiled unit: images, queues and calls from repeatable random numbers, made from the layout that
  * document 01 gives, with the upper half of document 02, T-04, the hypervisor's rows and commands of T-05, the limits of T-06, the
- * ranges of T-07 and the pending bit of T-08; and recorders, as T-01 has them. Nothing here comes from the unit.
- * Identifiers come from small pools, so that rows and commands meet. */
+ * ranges of T-07, the pending bit of T-08 and the second table of T-11; and recorders, as T-01 has them. Nothing here comes from
+ * the unit. Identifiers come from small pools, so that rows and commands meet. */
 #ifndef INPUTS_H
 #define INPUTS_H
 
@@ -12,13 +12,16 @@ enum { MOST_LOG2SIZE = 12, MOST_ROWS = 1000 };
 enum { MOST_SLOTS = 1 << MOST_LOG2SIZE, QUEUE_ROOM = 16 * (MOST_SLOTS + 1) };
 enum { MOST_WORDS = 1 + 4 * MOST_ROWS, ROOM = MOST_WORDS + 7 };
 
+/* The second table stands in the same array as the kept memory, from this word on: so one number names a word of either. */
+enum { MOST_REGIONS = 128, TABLE_AT = ROOM, TABLE_ROOM = 2 * MOST_REGIONS + 5, BOTH = TABLE_AT + TABLE_ROOM };
+
 /* More stores than a run can make, so that one that makes too many is seen. */
-enum { MOST_STORES = 2 * (MOST_ROWS + MOST_SLOTS) };
+enum { MOST_STORES = 2 * (MOST_ROWS + MOST_REGIONS + MOST_SLOTS) };
 
 /* How large an input may be: as the limits allow; or so that a run can be made at every allowance, which takes stores times
  * commands times rows. */
 struct size {
-    uint64_t log2size, rows;
+    uint64_t log2size, rows, regions;
 };
 extern const struct size LARGEST, SMALL;
 
@@ -46,6 +49,9 @@ extern const struct size LARGEST, SMALL;
 /* What is among the features for ranges. */
 #define RIL_FEATURE (UINT64_C(1) << 5)
 
+/* And for regions of the device permission table. */
+#define DPT_FEATURE (UINT64_C(1) << 6)
+
 /* A recorder, and parts of its index word; RD and WR stand where the control word has them. */
 enum { MOST_EVENTS = 7, RECORD_BYTES = 32, RECORD_STORES = 5 };
 #define OVERFLOW_FLAG (UINT64_C(1) << 40)
@@ -56,11 +62,11 @@ struct dice {
     uint64_t state;
 };
 
-/* Kept memory, the queue that it asks for, and features. `kept` has room for damage to add words. For the calls of the recorder its
- * words are the kept memory, and the record to be written is the queue. */
+/* Kept memory with the second table, the queue that it asks for, and features. Either has room for damage to add words. For the
+ * calls of the recorder its words are the kept memory, and the record to be written is the queue. */
 struct input {
-    uint64_t kept[ROOM];
-    size_t words;
+    uint64_t kept[BOTH];
+    size_t words, table_words;
     uint8_t queue[QUEUE_ROOM];
     size_t bytes;
     uint64_t features;
@@ -79,6 +85,9 @@ uint64_t any_width(struct dice *dice);
 void any_row(struct dice *dice, unsigned kind, int last, uint64_t row[4]);
 void some_row(struct dice *dice, uint64_t row[4]);
 
+/* The two words of a well-formed row of the second table. */
+void any_region(struct dice *dice, uint64_t region[2]);
+
 /* Whether two rows are in use, last-level and could answer the same lookup (document 02, T-02); marked rows answer none. */
 int doubles(const uint64_t one[4], const uint64_t other[4]);
 
@@ -95,13 +104,14 @@ uint64_t control_word(uint64_t rd, uint64_t wr, uint64_t flags, uint64_t log2siz
 /* An accepted image with its queue, mostly a small one; about one command in `rarity` is spoilt. */
 void any_input(struct dice *dice, struct input *input, struct size most, uint64_t rarity);
 
-/* Every row used, every slot waiting, and the queue enabled. */
+/* Every row of both tables used, every slot waiting, and the queue enabled. */
 void full_input(struct dice *dice, struct input *input, struct size size, uint64_t rarity);
 
-/* The same at the limits, with the most stores that a run can make: every fourth command removes a row of its own. */
+/* The same at the limits, with the most stores that a run can make: every fourth command removes a row of its own, and others those
+ * of the second table. */
 void spread_input(struct input *input);
 
-/* Makes an image or a queue wrong in one of many ways, some of which are none. */
+/* Makes an image, a second table or a queue wrong in one of many ways, some of which are none. */
 void damage(struct dice *dice, struct input *input);
 
 void any_access(struct dice *dice, struct access *access);

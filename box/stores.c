@@ -1,8 +1,8 @@
-/* stores [SEED [ROUNDS]]: the stores of the compiled unit, one by one, against the order that document 01 gives.
+/* stores [SEED [ROUNDS]]: the stores of the compiled unit, one by one, against the order that document 01 gives, over both tables.
  *
  * What a run has to store is read from what it leaves at allowance 0, 1, 2 and so on: one word differs each time, since clearing
  * a used row, moving RD and flipping GERROR all change the word. At the limits, where that takes too long, it is read from calls
- * of one store each. What a fill, a control call and the calls of the recorder have to store is in their words.
+ * of one store each. What either fill, a control call and the calls of the recorder have to store is in their words.
  * Every call is then made on watched memory, and word, value, order and number of the stores that are seen have to be those; a
  * call that is refused, a transaction and the state have to store nothing. Ends with 1 at the first difference, and where a kind
  * of store never came up. */
@@ -22,6 +22,7 @@ _Static_assert(MOST_ROWS == TAHVENNO_MAX_ROWS && MOST_LOG2SIZE == TAHVENNO_MAX_L
 _Static_assert(EL2_MARK == TAHVENNO_EL2 && E2H_MARK == TAHVENNO_EL2_E2H, "the header has other marks");
 _Static_assert(HYP_FEATURE == TAHVENNO_HYP && E2H_SETTING == TAHVENNO_E2H, "the header has other features");
 _Static_assert(RIL_FEATURE == TAHVENNO_RIL, "the header has another feature for ranges");
+_Static_assert(DPT_FEATURE == TAHVENNO_DPT && MOST_REGIONS == TAHVENNO_MAX_REGIONS, "the header has other regions");
 
 /* At how many places a run at the limits is cut. */
 enum { PLACES = 1000 };
@@ -35,6 +36,8 @@ static struct {
     uint64_t upper_fills, upper_removed, doubled;
     uint64_t el2_fills, e2h_fills, marked_beside, el2_removed, e2h_removed;
     uint64_t ranges, ranges_removed, ranges_several, ranges_of_two;
+    uint64_t regions_removed, regions_several, regions_all, regions_by_size, regions_none;
+    uint64_t table_fills, cut_table_fills, same_bases;
     uint64_t records, cut_records, same_records, flips, cut_flips, drops;
 } seen;
 
@@ -74,7 +77,7 @@ static void compare_stores(const char *name, const struct trace *trace, const st
  * expected stores. */
 static void check_call(const struct input *input, const struct call *call, const struct store *expected, size_t count) {
     const char *name = CALL_NAMES[call->which];
-    uint64_t plain[ROOM];
+    uint64_t plain[BOTH];
     struct outcome outcome;
     memcpy(plain, input->kept, sizeof plain);
     make_call(call, input, plain, input->queue, &outcome);
@@ -85,6 +88,8 @@ static void check_call(const struct input *input, const struct call *call, const
         compare_stores(name, trace, expected, count);
         if (memcmp(&watched.outcome, &outcome, sizeof outcome)) fail("%s: another outcome on watched memory", name);
         if (memcmp(watch_kept(), plain, 8 * input->words)) fail("%s: other memory where it is watched", name);
+        if (memcmp(watch_kept() + TABLE_AT, plain + TABLE_AT, 8 * input->table_words))
+            fail("%s: another second table where it is watched", name);
         seen.calls++;
         seen.stores += trace->count;
     }
@@ -95,7 +100,7 @@ static size_t changed(const struct input *input, const uint64_t *before, const u
                       struct store *store) {
     size_t differ = 0;
     if (outcome->returned) fail("run: refusal %" PRIu64 " of an image that is well formed", outcome->returned);
-    for (size_t i = 0; i < input->words; i++)
+    for (size_t i = 0; i < TABLE_AT + input->table_words; i++)
         if (before[i] != after[i]) differ++, *store = (struct store){i, after[i]};
     return differ;
 }
@@ -103,7 +108,7 @@ static size_t changed(const struct input *input, const uint64_t *before, const u
 /* The stores that a run has to make, from the memory at each allowance. */
 static size_t run_stores(const struct input *input, struct store *expected, struct outcome *last) {
     struct call call = {.which = RUN};
-    uint64_t before[ROOM], after[ROOM];
+    uint64_t before[BOTH], after[BOTH];
     size_t count = 0;
     memcpy(before, input->kept, sizeof before);
     for (call.allowance = 0;; call.allowance++) {
@@ -123,7 +128,7 @@ static size_t run_stores(const struct input *input, struct store *expected, stru
 /* The same from calls of one store, each of which goes on where the last was cut. */
 static size_t stores_one_by_one(const struct input *input, struct store *expected, struct outcome *last) {
     struct call call = {.which = RUN, .allowance = 1};
-    uint64_t before[ROOM], after[ROOM];
+    uint64_t before[BOTH], after[BOTH];
     size_t count = 0;
     memcpy(after, input->kept, sizeof after);
     do {
@@ -159,12 +164,31 @@ static void count_range(const struct input *input, uint64_t control, size_t rows
     seen.ranges_of_two += rows > 0 && pages > 1;
 }
 
-/* Document 01's order, with no look at what rows a command is about: rows from the lowest up are cleared, then RD goes forward by
- * one; or the error is raised, and that is the last. The store that moves RD also sets the pending bit if the command asks for an
- * interrupt, and no store of a run clears it (document 02, T-08). */
+/* A row of either table is cleared: whether it is a row in use. */
+static int clears(const struct store *store, const uint64_t *kept) {
+    size_t place = store->word < TABLE_AT ? (store->word - 1) % 4 : (store->word - TABLE_AT) % 2;
+    return place == 0 && store->value == 0 && kept[store->word] != 0;
+}
+
+/* The rows of the second table that the command at RD removed, beside so many of the kept memory: 70 and 73 alone remove any, and
+ * then none of the latter (document 02, T-11). */
+static void count_regions(const struct input *input, uint64_t control, size_t rows, size_t regions) {
+    uint8_t code = command_at(input, control)[0];
+    if ((code == 0x70 || code == 0x73) ? rows : regions) fail("run: code %02x removes rows of the other table", code);
+    seen.regions_removed += regions;
+    seen.regions_several += regions > 1;
+    seen.regions_all += code == 0x70 && regions > 0;
+    seen.regions_by_size += code == 0x73 && regions > 0;
+    seen.regions_none += code == 0x73 && regions == 0;
+}
+
+/* Document 01's order, with no look at what rows a command is about: rows from the lowest up are cleared, first those of the kept
+ * memory and then those of the second table, then RD goes forward by one; or the error is raised, and that is the last. The store
+ * that moves RD also sets the pending bit if the command asks for an interrupt, and no store of a run clears it (document 02,
+ * T-08). */
 static void check_order(const struct input *input, const struct store *stores, size_t count, uint64_t end) {
-    uint64_t kept[ROOM], control, ring, moved, raised, pending;
-    size_t lowest = 1, rows = 0;
+    uint64_t kept[BOTH], control, ring, moved, raised, pending;
+    size_t lowest = 1, rows = 0, regions = 0;
     memcpy(kept, input->kept, sizeof kept);
     for (size_t i = 0; i < count; i++) {
         const struct store *store = &stores[i];
@@ -174,29 +198,35 @@ static void check_order(const struct input *input, const struct store *stores, s
         moved = (control & ~RD_BITS) | ((control & RD_BITS) + 1) % ring | pending;
         raised = (control ^ GERROR) | UINT64_C(1) << ERR_SHIFT;
         if (store->word) {
-            if (store->word % 4 != 1 || store->value || !kept[store->word] || store->word < lowest)
+            if (!clears(store, kept) || store->word < lowest)
                 fail("run: store %zu is no clearing of a higher row: word %zu", i + 1, store->word);
+            lowest = store->word + 1;
+            if (store->word >= TABLE_AT) {
+                kept[store->word] = 0;
+                regions++;
+                continue;
+            }
             seen.upper_removed += kept[store->word + 2] >= UPPER_HALF;
             seen.el2_removed += kept[store->word] & EL2_MARK ? 1 : 0;
             seen.e2h_removed += kept[store->word] & E2H_MARK ? 1 : 0;
-            lowest = store->word + 4;
             rows++;
         } else if (store->value == moved) {
             seen.several += rows > 1;
             count_range(input, control, rows);
-            seen.removed += rows;
+            count_regions(input, control, rows, regions);
+            seen.removed += rows + regions;
             seen.consumed++;
             seen.made_pending += moved & ~control & PENDING ? 1 : 0;
             seen.left_pending += control & PENDING && !pending;
-            rows = 0, lowest = 1;
-        } else if (store->value != raised || rows || i + 1 != count || end != TAHVENNO_RAISED) {
+            rows = regions = 0, lowest = 1;
+        } else if (store->value != raised || rows + regions || i + 1 != count || end != TAHVENNO_RAISED) {
             fail("run: store %zu puts %" PRIx64 " over control word %" PRIx64, i + 1, store->value, control);
         } else {
             seen.raised_pending += control & PENDING ? 1 : 0;
         }
         kept[store->word] = store->value;
     }
-    if (rows) fail("run: rows were cleared and RD did not move");
+    if (rows + regions) fail("run: rows were cleared and RD did not move");
 }
 
 /* A run at the limits: whole, one store short of it, and cut at places all along it, each call going on where the last was cut. */
@@ -263,6 +293,12 @@ static void check_runs(struct dice *dice, int full, int random) {
         uint64_t code = ranged[i / 2], first = i % 2 && code != 0x2A ? UPPER_HALF : 0;
         full_input(dice, &input, SMALL, 1000);
         put_command(input.queue + input.bytes - 16, code | UINT64_C(31) << 12 | UINT64_C(31) << 20, first | 3 << 10);
+        check_run(&input);
+    }
+    for (uint64_t size = 0; size < 12; size++) { /* likewise 70, and 73 of each size from 0 on; every row is last-level or none is */
+        full_input(dice, &input, SMALL, 1000);
+        for (size_t at = TABLE_AT; at < TABLE_AT + input.table_words; at += 2) input.kept[at] ^= (input.kept[at] ^ size << 1) & 2;
+        put_command(input.queue + input.bytes - 16, size < 10 ? 0x73 : 0x70, size < 10 ? size << 8 | (size & 1) : 0);
         check_run(&input);
     }
     for (int i = 0; i < random; i++) {
@@ -339,6 +375,34 @@ static void check_fills(struct dice *dice, int rounds) {
     }
 }
 
+/* A fill of the second table at each allowance, into a row whose base is there already, or is not. */
+static void check_table_fill(struct dice *dice, struct input *input, int same) {
+    static const uint64_t allowances[] = {0, 1, 2, 3, UINT64_MAX};
+    struct call call = {.which = TABLE_FILL, .row = below(dice, input->table_words / 2)};
+    size_t at = TABLE_AT + 2 * call.row;
+    any_region(dice, call.w);
+    input->kept[at] = 0;
+    input->kept[at + 1] = same ? call.w[1] : ~call.w[1];
+    struct store expected[2] = {{at + 1, call.w[1]}, {at, call.w[0]}};
+    for (size_t i = 0; i < sizeof allowances / sizeof allowances[0]; i++) {
+        call.allowance = allowances[i];
+        size_t count = call.allowance < 2 ? call.allowance : 2;
+        check_call(input, &call, expected, count);
+        seen.table_fills++;
+        seen.cut_table_fills += count < 2;
+        seen.same_bases += same && count > 0;
+    }
+    seen.done[TABLE_FILL]++;
+}
+
+static void check_table_fills(struct dice *dice, int rounds) {
+    static struct input input;
+    for (int i = 0; i < 50 * rounds; i++) {
+        any_input(dice, &input, LARGEST, 8);
+        check_table_fill(dice, &input, i % 2);
+    }
+}
+
 /* The control word that a control call has to store. */
 static uint64_t control_after(const struct call *call, uint64_t control) {
     if (call->which == DOORBELL) return (control & ~(RD_BITS << WR_SHIFT)) | call->argument << WR_SHIFT;
@@ -347,12 +411,13 @@ static uint64_t control_after(const struct call *call, uint64_t control) {
     return call->argument ? control | CMDQEN : control & ~CMDQEN;
 }
 
-/* Every call but runs and fills of accepted images: one control store if it is carried out, none if it is refused or only reads. */
+/* Every call but runs and fills, of either table, of accepted images: one control store if it is carried out, none if it is refused
+ * or only reads. */
 static void check_others(struct dice *dice, int rounds) {
     static struct input input;
     struct call call;
     struct outcome outcome;
-    uint64_t plain[ROOM];
+    uint64_t plain[BOTH];
     for (int i = 0; i < rounds; i++) {
         enum which which = (enum which)(i % EVENT_WRITE);
         any_input(dice, &input, LARGEST, 8);
@@ -360,7 +425,7 @@ static void check_others(struct dice *dice, int rounds) {
         if (below(dice, 3) == 0) damage(dice, &input);
         memcpy(plain, input.kept, sizeof plain);
         make_call(&call, &input, plain, input.queue, &outcome);
-        if (!outcome.returned && which <= FILL) continue;
+        if (!outcome.returned && (which <= FILL || which == TABLE_FILL)) continue;
         struct store store = {0, control_after(&call, input.kept[0])};
         int stores = !outcome.returned && which <= CLEAR_PENDING;
         check_call(&input, &call, &store, (size_t)stores);
@@ -421,7 +486,7 @@ static uint64_t index_after(enum which which, const struct input *input) {
 /* A call of the recorder that stores the index word, or nothing if it is refused. */
 static void check_event(const struct input *input, const struct call *call) {
     struct outcome outcome;
-    uint64_t plain[ROOM];
+    uint64_t plain[BOTH];
     memcpy(plain, input->kept, sizeof plain);
     make_call(call, input, plain, input->queue, &outcome);
     if (call->which == EVENT_WRITE && !outcome.returned) return;
@@ -462,6 +527,11 @@ static void report(void) {
            seen.ranges, seen.ranges_removed, seen.ranges_several, seen.ranges_of_two);
     printf("stores: %" PRIu64 " fills, %" PRIu64 " of them cut, with %" PRIu64 " words that were there already\n", seen.fills,
            seen.cut_fills, seen.same_words);
+    printf("stores: %" PRIu64 " of the rows removed are of the second table, by %" PRIu64 " commands 70 and %" PRIu64
+           " 73 (%" PRIu64 " with several), and %" PRIu64 " more 73 remove none; %" PRIu64 " fills of it, %" PRIu64 " of them cut, with %" PRIu64
+           " bases that were there already\n",
+           seen.regions_removed, seen.regions_all, seen.regions_by_size, seen.regions_several, seen.regions_none, seen.table_fills,
+           seen.cut_table_fills, seen.same_bases);
     printf("stores: %" PRIu64 " of the fills and %" PRIu64 " of the rows removed have an address of the upper half\n",
            seen.upper_fills, seen.upper_removed);
     printf("stores: %" PRIu64 " fills are refused since they would double a row\n", seen.doubled);
@@ -483,13 +553,15 @@ static void report(void) {
 }
 
 int main(int argc, char **argv) {
-    struct dice dice, own;
+    struct dice dice, own, table;
     int rounds = argc > 2 ? atoi(argv[2]) : 8;
     if (argc > 1) seed = strtoull(argv[1], NULL, 0);
     dice.state = seed;
-    own.state = ~seed; /* so that the other inputs stay as they were without the recorder */
+    own.state = ~seed; /* so that the other inputs stay as they were without the recorder, and without the second table */
+    table.state = seed << 32;
     watch_start();
     check_events(&own, rounds);
+    check_table_fills(&table, rounds);
     check_fills(&dice, rounds);
     check_others(&dice, 2000 * rounds);
     check_runs(&dice, rounds, 80 * rounds);

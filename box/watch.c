@@ -9,12 +9,13 @@
 #include <sys/mman.h>
 #include <unistd.h>
 
-/* Kept memory begins on the second page; what lies before and after it is watched too. The queue has the last pages. */
-enum { PAGE = 4096, KEPT_AT = PAGE, KEPT_PAGES = 8 * ROOM / PAGE + 2, QUEUE_PAGES = QUEUE_ROOM / PAGE + 1 };
+/* Kept memory begins on the second page; what lies before and after it and the second table is watched too. The queue has the last
+ * pages. */
+enum { PAGE = 4096, KEPT_AT = PAGE, KEPT_PAGES = 8 * BOTH / PAGE + 2, QUEUE_PAGES = QUEUE_ROOM / PAGE + 1 };
 enum { QUEUE_AT = KEPT_AT + KEPT_PAGES * PAGE, WHOLE = QUEUE_AT + QUEUE_PAGES * PAGE };
 
 static unsigned char *lent, *written; /* the same memory, read-only and writable */
-static size_t kept_at, kept_words;
+static size_t kept_at, kept_words, table_words;
 static struct trace trace;
 static sigjmp_buf leave;
 static volatile sig_atomic_t watching;
@@ -31,6 +32,11 @@ static void complain(const char *why, size_t offset, const unsigned char *code) 
     siglongjmp(leave, 1);
 }
 
+/* Whether a word is one that was lent: of kept memory, or of the second table. */
+static int is_lent(size_t word) {
+    return word < kept_words || (word >= TABLE_AT && word < TABLE_AT + table_words);
+}
+
 static void on_fault(int signal_number, siginfo_t *info, void *context) {
     size_t offset = (size_t)((unsigned char *)info->si_addr - lent);
     const unsigned char *code = instruction_at(context);
@@ -42,7 +48,7 @@ static void on_fault(int signal_number, siginfo_t *info, void *context) {
     if (offset >= QUEUE_AT) complain("a store to the queue", offset, code);
     if (!decode_store(context, &store)) complain("not a plain 64-bit store", offset, code);
     if (store.address != (uintptr_t)info->si_addr) complain("decoded and faulting address differ", offset, code);
-    if (offset < kept_at || (offset - kept_at) % 8 || (offset - kept_at) / 8 >= kept_words)
+    if (offset < kept_at || (offset - kept_at) % 8 || !is_lent((offset - kept_at) / 8))
         complain("not a word of kept memory", offset, code);
     if (trace.count == MOST_STORES) complain("stores without end", offset, code);
     trace.stores[trace.count++] = (struct store){(offset - kept_at) / 8, store.value};
@@ -62,7 +68,9 @@ void watch_start(void) {
 void watch_load(const struct input *input, size_t shift) {
     kept_at = KEPT_AT + 8 * shift;
     kept_words = input->words;
+    table_words = input->table_words;
     memcpy(written + kept_at, input->kept, 8 * input->words);
+    memcpy(written + kept_at + 8 * TABLE_AT, input->kept + TABLE_AT, 8 * input->table_words);
     memcpy(written + QUEUE_AT, input->queue, input->bytes);
 }
 

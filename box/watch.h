@@ -1,9 +1,11 @@
-/* Sees every store that compiled code makes to kept memory or to the queue, those that change nothing included.
+/* Sees every store that compiled code makes to kept memory, to the second table or to the queue, those that change nothing
+ * included.
  *
- * Both lie in memory that is mapped read-only, so each store faults. The handler decodes the instruction, writes down the word and
+ * They lie in memory that is mapped read-only, so each store faults. The handler decodes the instruction, writes down the word and
  * the value, makes the store through a second, writable mapping of the same memory, and goes on after the instruction. Only the
- * plain store of one 64-bit register (on x86-64 also of a constant) to an aligned word of kept memory is taken. Whatever else
- * stores there, be it narrower, wider, a pair, a vector, or one that also reads, ends the call with a complaint. */
+ * plain store of one 64-bit register (on x86-64 also of a constant) to an aligned word of kept memory or of the second table is
+ * taken. Whatever else stores there, be it narrower, wider, a pair, a vector, or one that also reads, ends the call with a
+ * complaint. */
 #ifndef WATCH_H
 #define WATCH_H
 
@@ -12,6 +14,7 @@
 
 #include "inputs.h"
 
+/* A word of kept memory, or from TABLE_AT on one of the second table. */
 struct store {
     size_t word;
     uint64_t value;
@@ -36,7 +39,7 @@ const unsigned char *instruction_at(void *context);
 
 void watch_start(void);
 
-/* Copies an input into the watched memory, its kept memory `shift` words off a page boundary. */
+/* Copies an input into the watched memory, its kept memory `shift` words off a page boundary; the second table follows. */
 void watch_load(const struct input *input, size_t shift);
 uint64_t *watch_kept(void);
 const uint8_t *watch_queue(void);

@@ -12,9 +12,21 @@
 typedef uint64_t pair __attribute__((vector_size(16), aligned(8)));
 typedef volatile uint64_t word;
 
+/* A store to kept memory, or from TABLE_AT on to the second table. */
 struct due {
     size_t word;
     uint64_t value;
+};
+
+/* What a run is lent. */
+struct lent {
+    uint64_t *kept;
+    size_t words;
+    uint64_t *table;
+    size_t table_words;
+    const uint8_t *queue;
+    size_t bytes;
+    uint64_t features;
 };
 
 static int fault(const char *name) {
@@ -36,7 +48,7 @@ static void in_halves(uint64_t *kept, size_t at, uint64_t value) {
 static void both(uint64_t *kept, size_t at, uint64_t low, uint64_t high) {
     pair value = {low, high};
 #ifdef __aarch64__
-    if (fault("fill-paired") || fault("event-paired"))
+    if (fault("fill-paired") || fault("table-fill-paired") || fault("event-paired"))
         __asm__ volatile("stp %0, %1, [%2]" : : "r"(low), "r"(high), "r"(&kept[at]) : "memory");
     else __asm__ volatile("str %q0, [%1]" : : "w"(value), "r"(&kept[at]) : "memory");
 #else
@@ -50,46 +62,63 @@ static void swap(struct due *one, struct due *other) {
     *other = held;
 }
 
+/* Both tables, as one array has them. */
+static void copy_both(uint64_t *copy, const struct lent *lent) {
+    memcpy(copy, lent->kept, 8 * lent->words);
+    memcpy(copy + TABLE_AT, lent->table, 8 * lent->table_words);
+}
+
 /* Whether this input is the one that was asked about last, so that a run at many allowances is asked about once. */
-static int asked(const uint64_t *kept, size_t words, const uint8_t *queue, size_t bytes, uint64_t features) {
+static int asked(const struct lent *lent) {
     static struct input last;
-    if (last.words == words && last.bytes == bytes && last.features == features && !memcmp(last.kept, kept, 8 * words) &&
-        !memcmp(last.queue, queue, bytes))
+    if (last.words == lent->words && last.table_words == lent->table_words && last.bytes == lent->bytes &&
+        last.features == lent->features && !memcmp(last.kept, lent->kept, 8 * lent->words) &&
+        !memcmp(last.kept + TABLE_AT, lent->table, 8 * lent->table_words) && !memcmp(last.queue, lent->queue, lent->bytes))
         return 1;
-    last.words = words;
-    last.bytes = bytes;
-    last.features = features;
-    memcpy(last.kept, kept, 8 * words);
-    memcpy(last.queue, queue, bytes);
+    last.words = lent->words;
+    last.table_words = lent->table_words;
+    last.bytes = lent->bytes;
+    last.features = lent->features;
+    copy_both(last.kept, lent);
+    memcpy(last.queue, lent->queue, lent->bytes);
     return 0;
 }
 
 /* The first stores of a run, as many as are wanted: the unit makes one store a call on a copy, and the copy tells which. If the
  * input is the last one, it goes on from where the copy is. */
-uint64_t __real_tahvenno_run(uint64_t *, size_t, const uint8_t *, size_t, uint64_t, uint64_t, uint64_t *);
-static const struct due *stores_of(const uint64_t *kept, size_t words, const uint8_t *queue, size_t bytes, uint64_t features,
-                                   size_t wanted) {
+uint64_t __real_tahvenno_run(uint64_t *, size_t, uint64_t *, size_t, const uint8_t *, size_t, uint64_t, uint64_t, uint64_t *);
+static const struct due *stores_of(const struct lent *lent, size_t wanted) {
     static struct due due[MOST_STORES];
-    static uint64_t copy[ROOM], before[ROOM];
+    static uint64_t copy[BOTH], before[BOTH];
     static size_t known;
-    uint64_t answer[8];
-    if (!asked(kept, words, queue, bytes, features)) {
-        memcpy(copy, kept, 8 * words);
+    uint64_t answer[8], *table = copy + TABLE_AT;
+    if (!asked(lent)) {
+        memset(copy, 0, sizeof copy);
+        copy_both(copy, lent);
         known = 0;
     }
     for (; known < wanted; known++) {
-        memcpy(before, copy, 8 * words);
-        __real_tahvenno_run(copy, words, queue, bytes, features, 1, answer);
-        for (size_t i = 0; i < words; i++)
+        memcpy(before, copy, sizeof before);
+        __real_tahvenno_run(copy, lent->words, table, lent->table_words, lent->queue, lent->bytes, lent->features, 1, answer);
+        for (size_t i = 0; i < BOTH; i++)
             if (before[i] != copy[i]) due[known] = (struct due){i, copy[i]};
     }
     return due;
 }
 
+/* Whether a store clears a row of the second table, and whether one clears a row of the kept memory. */
+static int in_table(const struct due *due) {
+    return due->word >= TABLE_AT;
+}
+
+static int in_kept(const struct due *due) {
+    return due->word && !in_table(due);
+}
+
 /* EL2 rows before EL2-E2H rows of the same command, as two scans would clear them. */
 static void by_mark(const uint64_t *kept, struct due *due, size_t count) {
     for (size_t i = 1; i < count; i++)
-        for (size_t k = i; k > 0 && due[k - 1].word && due[k].word; k--)
+        for (size_t k = i; k > 0 && in_kept(&due[k - 1]) && in_kept(&due[k]); k--)
             if (kept[due[k - 1].word] & E2H_MARK && kept[due[k].word] & EL2_MARK) swap(&due[k - 1], &due[k]);
             else break;
 }
@@ -110,22 +139,32 @@ static uint64_t found_at(const uint64_t *kept, const struct due *due, uint64_t f
 static void by_page(const uint64_t *kept, const uint8_t *queue, struct due *due, size_t count) {
     uint64_t first;
     for (size_t i = 1, after = due[0].word == 0; i < count; after += due[i++].word == 0)
-        for (size_t k = i; k > 0 && due[k - 1].word && due[k].word && in_range(kept, queue, after, &first); k--)
+        for (size_t k = i; k > 0 && in_kept(&due[k - 1]) && in_kept(&due[k]) && in_range(kept, queue, after, &first); k--)
             if (found_at(kept, &due[k - 1], first) > found_at(kept, &due[k], first)) swap(&due[k - 1], &due[k]);
             else break;
 }
 
+/* The rows of the second table that a command removes in the order of their sizes, as a loop over these would clear them. */
+static void by_size(const uint64_t *table, struct due *due, size_t count) {
+    for (size_t i = 1; i < count; i++)
+        for (size_t k = i; k > 0 && in_table(&due[k - 1]) && in_table(&due[k]); k--)
+            if (table[due[k - 1].word - TABLE_AT] >> 2 > table[due[k].word - TABLE_AT] >> 2) swap(&due[k - 1], &due[k]);
+            else break;
+}
+
 /* Puts a wrong order on what a run stores. */
-static void reorder(const uint64_t *kept, const uint8_t *queue, struct due *due, size_t count) {
-    if (fault("run-by-mark")) by_mark(kept, due, count);
-    if (fault("run-by-page") && count) by_page(kept, queue, due, count);
+static void reorder(const struct lent *lent, struct due *due, size_t count) {
+    if (fault("run-by-mark")) by_mark(lent->kept, due, count);
+    if (fault("run-by-page") && count) by_page(lent->kept, lent->queue, due, count);
+    if (fault("run-by-size")) by_size(lent->table, due, count);
     for (size_t i = 1; i < count; i++) {
-        int rows = due[i - 1].word && due[i].word;
-        if (fault("run-rows-swapped") && rows) {
+        int rows = in_kept(&due[i - 1]) && in_kept(&due[i]), regions = in_table(&due[i - 1]) && in_table(&due[i]);
+        if ((fault("run-rows-swapped") && rows) || (fault("run-regions-swapped") && regions)) {
             swap(&due[i - 1], &due[i]);
             return;
         }
-        if (fault("run-rd-first") && due[i - 1].word && !due[i].word)
+        int cleared = (fault("run-rd-first") && in_kept(&due[i - 1])) || (fault("run-rd-before-regions") && in_table(&due[i - 1]));
+        if (cleared && !due[i].word)
             for (size_t k = i; k > 0 && due[k - 1].word; k--) swap(&due[k - 1], &due[k]);
     }
 }
@@ -148,11 +187,27 @@ static void store_again(uint64_t *kept, const uint8_t *queue, const struct due *
     if (due->word && (row >> 5 & 63) > 12 && in_range(kept, queue, 0, &first)) store(kept, due->word, 0);
 }
 
-static void store_run(uint64_t *kept, const uint8_t *queue, const struct due *due, size_t count) {
+/* A row of the second table is cleared. */
+static void store_region(uint64_t *table, const struct due *due) {
+    size_t at = due->word - TABLE_AT;
+    if (fault("run-region-whole")) both(table, at, 0, table[at + 1]);
+    else if (fault("run-region-in-halves")) in_halves(table, at, 0);
+    else if (fault("run-region-byte")) *(volatile uint8_t *)&table[at] = 0;
+    else store(table, at, 0);
+    if (fault("run-region-doubled")) store(table, at, 0);
+    if (fault("run-region-base")) store(table, at + 1, table[at + 1]);
+}
+
+static void store_run(const struct lent *lent, const struct due *due, size_t count) {
+    uint64_t *kept = lent->kept;
     size_t last = count;
     while (last > 0 && due[last - 1].word) last--;
     for (size_t i = 0; i < count; i++) {
         int narrow = !due[i].word && due[i].value >> 32 == kept[0] >> 32; /* the lower half is all that changes */
+        if (in_table(&due[i])) {
+            store_region(lent->table, &due[i]);
+            continue;
+        }
         uint64_t row = kept[due[i].word];
         if (fault("run-rd-gathered") && i + 1 < last && !due[i].word) continue;
         if (fault("run-in-halves")) in_halves(kept, due[i].word, due[i].value);
@@ -160,37 +215,47 @@ static void store_run(uint64_t *kept, const uint8_t *queue, const struct due *du
         else if (!due[i].word) store_pending(kept, due[i].value);
         else store(kept, due[i].word, due[i].value);
         if (fault("run-doubled")) store(kept, due[i].word, due[i].value);
-        if (fault("run-page-again")) store_again(kept, queue, &due[i], row);
+        if (fault("run-page-again")) store_again(kept, lent->queue, &due[i], row);
     }
 }
 
 /* As a unit that works on a copy would, from word 0 up. */
-static void write_back(uint64_t *kept, size_t words, const struct due *due, size_t count) {
-    for (size_t at = 0; at < words; at++)
+static void write_back(const struct lent *lent, const struct due *due, size_t count) {
+    for (size_t at = 0; at < TABLE_AT + lent->table_words; at++)
         for (size_t i = count; i-- > 0;)
             if (due[i].word == at) {
-                store(kept, at, due[i].value);
+                if (at < TABLE_AT) store(lent->kept, at, due[i].value);
+                else store(lent->table, at - TABLE_AT, due[i].value);
                 break;
             }
 }
 
-uint64_t __wrap_tahvenno_run(uint64_t *kept, size_t words, const uint8_t *queue, size_t bytes, uint64_t features,
-                             uint64_t allowance, uint64_t answer[8]) {
+/* What stands in the table's rows is stored there once more, though no command is about it. */
+static void store_table_again(const struct lent *lent) {
+    for (size_t at = 0; at < lent->table_words; at += 2) store(lent->table, at, lent->table[at]);
+}
+
+uint64_t __wrap_tahvenno_run(uint64_t *kept, size_t words, uint64_t *table, size_t table_words, const uint8_t *queue, size_t bytes,
+                             uint64_t features, uint64_t allowance, uint64_t answer[8]) {
     static struct due due[MOST_STORES];
-    static uint64_t copy[ROOM];
-    memcpy(copy, kept, 8 * words);
-    uint64_t returned = __real_tahvenno_run(copy, words, queue, bytes, features, allowance, answer);
+    static uint64_t copy[BOTH];
+    const struct lent lent = {kept, words, table, table_words, queue, bytes, features};
+    copy_both(copy, &lent);
+    uint64_t returned = __real_tahvenno_run(copy, words, copy + TABLE_AT, table_words, queue, bytes, features, allowance, answer);
     if (returned) {
         if (fault("refusal-stores")) store(kept, 0, kept[0]);
+        if (returned == 14 && fault("refusal-mends")) store(table, 2 * answer[0], 0);
         return returned;
     }
     size_t count = answer[2];
-    memcpy(due, stores_of(kept, words, queue, bytes, features, count), count * sizeof due[0]);
-    reorder(kept, queue, due, count);
+    memcpy(due, stores_of(&lent, count), count * sizeof due[0]);
+    reorder(&lent, due, count);
     if (fault("run-queue")) *(volatile uint8_t *)(uintptr_t)queue = *queue;
     if (fault("run-beyond")) store(kept, words, 0);
-    if (fault("run-written-back")) write_back(kept, words, due, count);
-    else store_run(kept, queue, due, count);
+    if (fault("run-beyond-table")) store(table, table_words, 0);
+    if (fault("run-table-again")) store_table_again(&lent);
+    if (fault("run-written-back")) write_back(&lent, due, count);
+    else store_run(&lent, due, count);
     return 0;
 }
 
@@ -216,11 +281,42 @@ static void store_fill(uint64_t *row, const uint64_t w[4], uint64_t count) {
 uint64_t __real_tahvenno_fill(uint64_t *, size_t, uint64_t, uint64_t, uint64_t, uint64_t, uint64_t, uint64_t, uint64_t *);
 uint64_t __wrap_tahvenno_fill(uint64_t *kept, size_t words, uint64_t row, uint64_t w0, uint64_t w1, uint64_t w2, uint64_t w3,
                               uint64_t allowance, uint64_t answer[8]) {
-    static uint64_t copy[ROOM];
+    static uint64_t copy[BOTH];
     memcpy(copy, kept, 8 * words);
     uint64_t returned = __real_tahvenno_fill(copy, words, row, w0, w1, w2, w3, allowance, answer);
     if (!returned) store_fill(kept + 1 + 4 * row, (const uint64_t[4]){w0, w1, w2, w3}, answer[1]);
     if (returned == 11 && fault("fill-refused")) store(kept + 1 + 4 * row, 1, w1);
+    return returned;
+}
+
+/* The first stores of a fill of the second table. */
+static void store_table_fill(uint64_t *row, uint64_t w0, uint64_t w1, uint64_t count) {
+    int first = fault("table-fill-word-0-first");
+    if ((fault("table-fill-merged") || fault("table-fill-paired")) && count == 2) {
+        both(row, 0, w0, w1);
+        return;
+    }
+    for (uint64_t i = 0; i < count; i++) {
+        size_t at = first ? i : 1 - i;
+        uint64_t value = at ? w1 : w0;
+        if (fault("table-fill-sparing") && row[at] == value) continue;
+        if (fault("table-fill-in-halves") && at) in_halves(row, at, value);
+        else if (fault("table-fill-byte") && !at) *(volatile uint8_t *)row = (uint8_t)value;
+        else store(row, at, value);
+        if (fault("table-fill-doubled") && !at) store(row, at, value);
+    }
+}
+
+uint64_t __real_tahvenno_table_fill(const uint64_t *, size_t, uint64_t *, size_t, uint64_t, uint64_t, uint64_t, uint64_t,
+                                    uint64_t *);
+uint64_t __wrap_tahvenno_table_fill(const uint64_t *kept, size_t words, uint64_t *table, size_t table_words, uint64_t row,
+                                    uint64_t w0, uint64_t w1, uint64_t allowance, uint64_t answer[8]) {
+    static uint64_t copy[TABLE_ROOM];
+    memcpy(copy, table, 8 * table_words);
+    uint64_t returned = __real_tahvenno_table_fill(kept, words, copy, table_words, row, w0, w1, allowance, answer);
+    if (!returned) store_table_fill(table + 2 * row, w0, w1, answer[1]);
+    if (!returned && fault("table-fill-kept")) store((uint64_t *)(uintptr_t)kept, 0, kept[0]);
+    if (returned == 8 && fault("table-fill-refused")) store(table, 2 * row + 1, table[2 * row + 1]);
     return returned;
 }
 
@@ -254,7 +350,7 @@ static void store_cleared(uint64_t *kept, uint64_t value) {
 #define CONTROL(name, parameters, arguments, put)                                                                                \
     uint64_t __real_tahvenno_##name parameters;                                                                                  \
     uint64_t __wrap_tahvenno_##name parameters {                                                                                 \
-        static uint64_t copy[ROOM];                                                                                              \
+        static uint64_t copy[BOTH];                                                                                              \
         uint64_t *lent = kept;                                                                                                   \
         memcpy(copy, lent, 8 * words);                                                                                           \
         kept = copy;                                                                                                             \
@@ -324,7 +420,7 @@ static uint64_t event_refused(uint64_t *events, size_t words, uint64_t returned)
 uint64_t __real_tahvenno_event_write(uint64_t *, size_t, const uint8_t *, uint64_t, uint64_t *);
 uint64_t __wrap_tahvenno_event_write(uint64_t *events, size_t words, const uint8_t record[32], uint64_t allowance,
                                      uint64_t answer[8]) {
-    static uint64_t copy[ROOM];
+    static uint64_t copy[BOTH];
     uint64_t told[8];
     memcpy(copy, events, 8 * words);
     uint64_t returned = __real_tahvenno_event_write(copy, words, record, allowance, answer);
@@ -344,7 +440,7 @@ uint64_t __wrap_tahvenno_event_write(uint64_t *events, size_t words, const uint8
 
 uint64_t __real_tahvenno_event_read(uint64_t *, size_t, uint64_t *);
 uint64_t __wrap_tahvenno_event_read(uint64_t *events, size_t words, uint64_t answer[8]) {
-    static uint64_t copy[ROOM];
+    static uint64_t copy[BOTH];
     memcpy(copy, events, 8 * words);
     uint64_t returned = __real_tahvenno_event_read(copy, words, answer);
     if (returned) return event_refused(events, words, returned);
@@ -358,7 +454,7 @@ uint64_t __wrap_tahvenno_event_read(uint64_t *events, size_t words, uint64_t ans
 
 uint64_t __real_tahvenno_event_acknowledge(uint64_t *, size_t, uint64_t *);
 uint64_t __wrap_tahvenno_event_acknowledge(uint64_t *events, size_t words, uint64_t answer[8]) {
-    static uint64_t copy[ROOM];
+    static uint64_t copy[BOTH];
     memcpy(copy, events, 8 * words);
     uint64_t returned = __real_tahvenno_event_acknowledge(copy, words, answer);
     if (returned) return event_refused(events, words, returned);

@@ -15,15 +15,15 @@ pub fn answer(words: &[u64]) -> [u64; 8] {
     std::array::from_fn(|place| words.get(place).copied().unwrap_or(0))
 }
 
-/// What a caller is told: 0 and the answer, or the refusal's number. Refusal 3
-/// names its row.
+/// What a caller is told: 0 and the answer, or the refusal's number. Refusals 3 and
+/// 14 name their row.
 pub fn reply(result: Result<[u64; 8], Refusal>) -> Reply {
     match result {
         Ok(answer) => Reply { number: 0, answer },
         Err(refusal) => Reply {
             number: refusal.number(),
             answer: match refusal {
-                Refusal::Row(lowest) => answer(&[lowest as u64]),
+                Refusal::Row(lowest) | Refusal::TableRow(lowest) => answer(&[lowest as u64]),
                 _ => answer(&[]),
             },
         },

@@ -22,6 +22,11 @@ pub enum Call<'a> {
     Translate(Asked),
     State,
     ClearPending,
+    TableFill {
+        row: u64,
+        words: [u64; 2],
+        allowance: u64,
+    },
     EventWrite {
         record: &'a [u8; 32],
         allowance: u64,
@@ -43,7 +48,7 @@ pub struct Asked {
 }
 
 /// The names of the calls, in the order of `Call::index`.
-pub const NAMES: [&str; 11] = [
+pub const NAMES: [&str; 12] = [
     "run",
     "fill",
     "doorbell",
@@ -52,6 +57,7 @@ pub const NAMES: [&str; 11] = [
     "translate",
     "state",
     "clear_pending",
+    "table_fill",
     "event_write",
     "event_read",
     "event_acknowledge",
@@ -59,10 +65,10 @@ pub const NAMES: [&str; 11] = [
 
 /// The calls from here on are on the words of the event recorder, those before on
 /// the kept memory.
-pub const FIRST_EVENT: usize = 8;
+pub const FIRST_EVENT: usize = 9;
 
 /// The numbers that each call is passed and their bits, in the order of the C
-/// interface; memory, queue and record aren't among them.
+/// interface; memory, second table, queue and record aren't among them.
 pub const NUMBERS: [&[(&str, u32)]; NAMES.len()] = [
     &[("features", 64), ("allowance", 64)],
     &[
@@ -87,6 +93,7 @@ pub const NUMBERS: [&[(&str, u32)]; NAMES.len()] = [
     ],
     &[],
     &[],
+    &[("row", 64), ("w0", 64), ("w1", 64), ("allowance", 64)],
     &[("allowance", 64)],
     &[],
     &[],
@@ -119,9 +126,10 @@ impl Call<'_> {
             Call::Translate(_) => 5,
             Call::State => 6,
             Call::ClearPending => 7,
-            Call::EventWrite { .. } => 8,
-            Call::EventRead => 9,
-            Call::EventAcknowledge => 10,
+            Call::TableFill { .. } => 8,
+            Call::EventWrite { .. } => 9,
+            Call::EventRead => 10,
+            Call::EventAcknowledge => 11,
         }
     }
 
@@ -149,6 +157,11 @@ impl Call<'_> {
                 asked.sh,
                 asked.hints,
             ],
+            Call::TableFill {
+                row,
+                words: [w0, w1],
+                allowance,
+            } => vec![row, w0, w1, allowance],
             Call::EventWrite { allowance, .. } => vec![allowance],
             Call::Acknowledge | Call::State | Call::ClearPending => vec![],
             Call::EventRead | Call::EventAcknowledge => vec![],
@@ -181,6 +194,11 @@ impl Call<'_> {
                     hints,
                 })
             }
+            (Call::TableFill { .. }, &[row, w0, w1, allowance]) => Call::TableFill {
+                row,
+                words: [w0, w1],
+                allowance,
+            },
             (Call::EventWrite { record, .. }, &[allowance]) => {
                 Call::EventWrite { record, allowance }
             }

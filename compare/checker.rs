@@ -3,7 +3,7 @@
 use crate::call::{Call, Reply};
 use crate::generate::random::Random;
 use crate::laws;
-use crate::lent::Lent;
+use crate::lent::{Lent, Memory};
 use crate::modelled;
 use crate::report::{stop, Scene};
 use crate::tally::Tally;
@@ -15,6 +15,8 @@ pub struct Checker {
     seed: u64,
     phase: &'static str,
     garbage: Random,
+    /// The second table that was lent last, as it was before.
+    table: Vec<u64>,
     /// A wrong unit in the unit's place.
     wrong: Option<Wrong>,
     pub tally: Tally,
@@ -26,6 +28,7 @@ impl Checker {
             seed,
             phase: "",
             garbage: Random::new(!seed),
+            table: Vec::new(),
             wrong,
             tally: Tally::default(),
         }
@@ -43,10 +46,17 @@ impl Checker {
     }
 
     /// One call on unit and model, each with its own copy; `kept` then holds
-    /// what both left there.
+    /// what both left there. The second table is one empty row.
     pub fn call(&mut self, kept: &mut [u64], call: Call) -> Reply {
+        let mut table = [0, self.garbage.next()];
+        self.both(kept, &mut table, call)
+    }
+
+    /// The same with a second table, which then holds what both left there, too.
+    pub fn both(&mut self, kept: &mut [u64], table: &mut [u64], call: Call) -> Reply {
         let before = kept.to_vec();
-        let mut lent = Lent::new(kept, &mut self.garbage);
+        self.table = table.to_vec();
+        let mut lent = Memory::new(kept, table, &mut self.garbage);
         let dirt: [u64; 8] = std::array::from_fn(|_| self.garbage.next());
         let mut answer = Lent::new(&dirt, &mut self.garbage);
         let (number, bytes_kept) = on_unit(call, &mut lent, &mut answer, &self.wrong);
@@ -55,20 +65,24 @@ impl Checker {
             number,
             answer: std::array::from_fn(|place| answer.inner()[place]),
         };
-        let ours = modelled::perform(call, kept, &mut self.tally);
+        let ours = modelled::perform(call, kept, table, &mut self.tally);
         self.tally.upper.count(&before, &call, &ours, kept);
         self.tally.doubles.count(&before, &call, &ours);
         self.tally.hyp.count(&before, &call, &ours, kept);
         self.tally.ranges.count(&before, &call, &ours, kept);
+        let start = (&before[..], &self.table[..]);
+        self.tally.regions.count(start, &call, &ours, (kept, table));
 
-        let scene = self.scene(&before, call, (theirs, lent.inner()), (ours, kept));
-        if theirs != ours || lent.inner() != kept {
+        let mut scene = self.scene(&before, call, (theirs, lent.inner()), (ours, kept));
+        scene.tables = [lent.table(), table];
+        if theirs != ours || lent.inner() != kept || lent.table() != table {
             stop(&scene, "unit and model differ");
         }
         if !bytes_kept || !lent.margins_kept() || !answer.margins_kept() {
             stop(&scene, "the unit stored outside the words lent for storing");
         }
-        if let Some(law) = laws::broken(&before, call, ours, kept) {
+        let tables = (&self.table[..], &*table);
+        if let Some(law) = laws::broken(&before, call, ours, kept, tables) {
             stop(&scene, law);
         }
         ours
@@ -90,7 +104,7 @@ impl Checker {
     }
 
     fn scene<'a>(
-        &self,
+        &'a self,
         before: &'a [u64],
         call: Call<'a>,
         unit: (Reply, &'a [u64]),
@@ -102,17 +116,19 @@ impl Checker {
             phase,
             serial,
             before,
+            table: &self.table,
             call,
             unit,
             model,
+            tables: [&[]; 2],
         }
     }
 }
 
 /// The unit's number, and whether it left the queue or the record alone. It is
 /// lent a copy of them, for the model has to read them as they were.
-fn on_unit(call: Call, kept: &mut Lent, answer: &mut Lent, wrong: &Option<Wrong>) -> (u64, bool) {
-    let perform = |call, kept: &mut Lent, answer: &mut Lent| match wrong {
+fn on_unit(call: Call, kept: &mut Memory, answer: &mut Lent, wrong: &Option<Wrong>) -> (u64, bool) {
+    let perform = |call, kept: &mut Memory, answer: &mut Lent| match wrong {
         None => unit::perform(call, kept, answer),
         Some(wrong) => wrong.perform(call, kept, answer),
     };

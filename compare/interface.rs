@@ -4,6 +4,8 @@ extern "C" {
     pub fn tahvenno_run(
         kept: *mut u64,
         words: usize,
+        table: *mut u64,
+        table_words: usize,
         queue: *const u8,
         bytes: usize,
         features: u64,
@@ -38,6 +40,17 @@ extern "C" {
         answer: *mut u64,
     ) -> u64;
     pub fn tahvenno_state(kept: *const u64, words: usize, answer: *mut u64) -> u64;
+    pub fn tahvenno_table_fill(
+        kept: *const u64,
+        words: usize,
+        table: *mut u64,
+        table_words: usize,
+        row: u64,
+        w0: u64,
+        w1: u64,
+        allowance: u64,
+        answer: *mut u64,
+    ) -> u64;
     pub fn tahvenno_event_write(
         events: *mut u64,
         words: usize,

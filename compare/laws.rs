@@ -4,16 +4,28 @@
 mod events;
 mod hyp;
 mod ranges;
+mod regions;
 
 use crate::call::{Call, Reply, CUT, FIRST_EVENT, RAISED};
 use crate::model::control::Control;
 use crate::model::image::used_rows;
+use crate::model::region::used_regions;
 
 /// The law that a call broke, if any.
-pub fn broken(before: &[u64], call: Call, reply: Reply, after: &[u64]) -> Option<&'static str> {
+pub fn broken(
+    before: &[u64],
+    call: Call,
+    reply: Reply,
+    after: &[u64],
+    tables: (&[u64], &[u64]),
+) -> Option<&'static str> {
     if reply.number != 0 {
-        let stored = (before != after).then_some("a refusal stored something");
+        let same = before == after && tables.0 == tables.1;
+        let stored = (!same).then_some("a refusal stored something");
         return stored.or_else(|| hyp::refused(before, call, reply));
+    }
+    if let Some(law) = regions::broken(call, reply, tables) {
+        return Some(law);
     }
     match call {
         _ if call.index() >= FIRST_EVENT => events::broken(before, call, reply, after),
@@ -21,11 +33,18 @@ pub fn broken(before: &[u64], call: Call, reply: Reply, after: &[u64]) -> Option
             queue,
             features,
             allowance,
-        } => run(before, queue, allowance, reply, after)
-            .or_else(|| hyp::run(before, (queue, features), reply, after))
-            .or_else(|| ranges::run(before, (queue, features), reply, after)),
-        Call::Translate(_) | Call::State => {
-            (before != after).then_some("a call that only reads stored something")
+        } => run(
+            (before, tables.0),
+            queue,
+            allowance,
+            reply,
+            (after, tables.1),
+        )
+        .or_else(|| hyp::run(before, (queue, features), reply, after))
+        .or_else(|| ranges::run(before, (queue, features), reply, after))
+        .or_else(|| regions::run(before, (queue, features), reply, (after, tables))),
+        Call::Translate(_) | Call::State | Call::TableFill { .. } => {
+            (before != after).then_some("a call stored to a memory that it only reads")
         }
         Call::Fill { row, .. } => {
             let start = 1 + 4 * row as usize;
@@ -43,17 +62,18 @@ pub fn broken(before: &[u64], call: Call, reply: Reply, after: &[u64]) -> Option
 
 /// The sums of document 01, One run, and what document 02 adds.
 fn run(
-    before: &[u64],
+    (before, table_before): (&[u64], &[u64]),
     queue: &[u8],
     allowance: u64,
     reply: Reply,
-    after: &[u64],
+    (after, table_after): (&[u64], &[u64]),
 ) -> Option<&'static str> {
     let [end, consumed, stores, removed, syncs, ..] = reply.answer;
     if stores != removed + consumed + u64::from(end == RAISED) {
         return Some("stores aren't rows removed and commands consumed, and one if Raised");
     }
-    if used_rows(before) != used_rows(after) + removed {
+    let used = |kept: &[u64], table: &[u64]| used_rows(kept) + used_regions(table);
+    if used(before, table_before) != used(after, table_after) + removed {
         return Some("used rows before aren't used rows after and rows removed");
     }
     if stores > allowance || (end == CUT && stores != allowance) {

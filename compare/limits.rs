@@ -7,6 +7,9 @@ pub const LOG2SIZE: u64 = 12;
 /// Rows of a table at most (T-06); at least it has one.
 pub const ROWS: u64 = 1_000;
 
+/// Rows of the second table at most (T-11); at least it has one.
+pub const REGIONS: u64 = 128;
+
 /// One more than the largest output address, and than the largest input address of
 /// the lower half.
 pub const ADDRESS: u64 = 1 << 52;
@@ -24,6 +27,11 @@ pub const SLOTS: u64 = 1 << LOG2SIZE;
 /// The words of a memory with so many rows.
 pub const fn words(rows: u64) -> usize {
     1 + 4 * rows as usize
+}
+
+/// The words of a second table with so many rows.
+pub const fn table_words(rows: u64) -> usize {
+    2 * rows as usize
 }
 
 /// The bytes of a queue.

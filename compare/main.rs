@@ -5,7 +5,8 @@
 //! unit's code. `generate/` makes inputs whose rows and commands collide
 //! often, `phases/` decides which calls are made, and every call is made on both
 //! sides: the returned number, the eight answer words and each word of the kept
-//! memory have to be the same. At the end a table says what was compared.
+//! memory and of the second table have to be the same. At the end a table says what
+//! was compared.
 //!
 //! Build, with LIB the folder that holds the unit's static library libNAME.a:
 //!
@@ -83,7 +84,9 @@ fn compare(seed: u64, wrong: Option<Wrong>) -> ExitCode {
     phases::doubles::cases::cases(&mut checker);
     phases::hyp::cases::cases(&mut checker);
     phases::ranges::cases::cases(&mut checker);
+    phases::regions::cases::cases(&mut checker);
     phases::events::cases::cases(&mut checker);
+    phases::regions::regions(&mut checker);
     phases::hyp::hyp(&mut checker);
     phases::events::events(&mut checker);
     phases::limits::limits(&mut checker);

@@ -10,18 +10,22 @@ use crate::model::fill::fill;
 use crate::model::refusal::Refusal;
 use crate::model::run::{run, Report};
 use crate::model::state::state;
+use crate::model::table_fill::table_fill;
 use crate::model::transaction::{stream_row, translate, Outcome};
 use crate::tally::Tally;
 
 /// Makes the call, and tells the tally what came of it.
-pub fn perform(call: Call, kept: &mut [u64], tally: &mut Tally) -> Reply {
+pub fn perform(call: Call, kept: &mut [u64], table: &mut [u64], tally: &mut Tally) -> Reply {
     let before = kept.first().copied().unwrap_or(0);
     let result = match call {
         Call::Run {
             queue,
             features,
             allowance,
-        } => ended(kept, queue, features, allowance, tally).map(ran),
+        } => {
+            let call = (queue, features, allowance);
+            ended((kept, table), call, tally).map(ran)
+        }
         Call::Fill {
             row,
             words,
@@ -33,6 +37,11 @@ pub fn perform(call: Call, kept: &mut [u64], tally: &mut Tally) -> Reply {
         Call::Translate(asked) => outcome(kept, asked, tally).map(translated),
         Call::State => state(kept).map(standing),
         Call::ClearPending => clear_pending(kept).map(|()| answer(&[])),
+        Call::TableFill {
+            row,
+            words,
+            allowance,
+        } => table_fill(kept, table, row, words, allowance).map(filled),
         Call::EventWrite { record, allowance } => recorded(kept, record, allowance),
         Call::EventRead => events::read(kept).map(|record| answer(&record)),
         Call::EventAcknowledge => events::acknowledge(kept).map(|()| answer(&[])),
@@ -52,14 +61,13 @@ fn recorded(kept: &mut [u64], record: &[u8; 32], allowance: u64) -> Result<[u64;
 }
 
 fn ended(
-    kept: &mut [u64],
-    queue: &[u8],
-    features: u64,
-    allowance: u64,
+    (kept, table): (&mut [u64], &mut [u64]),
+    (queue, features, allowance): (&[u8], u64, u64),
     tally: &mut Tally,
 ) -> Result<Report, Refusal> {
     let watch = |code, fate| tally.commands.count(code, fate);
-    let report = run(kept, queue, Features::from_bits(features), allowance, watch)?;
+    let features = Features::from_bits(features);
+    let report = run(kept, table, queue, features, allowance, watch)?;
     if report.raised.is_some() {
         tally.commands.count_raised(Control::fields(kept[0]));
     }

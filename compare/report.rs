@@ -8,9 +8,13 @@ pub struct Scene<'a> {
     pub phase: &'static str,
     pub serial: u64,
     pub before: &'a [u64],
+    /// The second table before the call.
+    pub table: &'a [u64],
     pub call: Call<'a>,
     pub unit: (Reply, &'a [u64]),
     pub model: (Reply, &'a [u64]),
+    /// What unit and model left in the second table, if that is known.
+    pub tables: [&'a [u64]; 2],
 }
 
 /// Prints the scene and ends the program.
@@ -22,6 +26,8 @@ pub fn stop(scene: &Scene, what: &str) -> ! {
     );
     print_call(&scene.call);
     print_memory(scene.before);
+    println!("second table, {} words:", scene.table.len());
+    print_lines(scene.table, 2);
     for (side, (reply, _)) in [("unit", scene.unit), ("model", scene.model)] {
         let answer: Vec<String> = reply
             .answer
@@ -33,6 +39,11 @@ pub fn stop(scene: &Scene, what: &str) -> ! {
     for (place, (theirs, ours)) in scene.unit.1.iter().zip(scene.model.1).enumerate() {
         if theirs != ours {
             println!("word {place} after the call: unit {theirs:#018x}, model {ours:#018x}");
+        }
+    }
+    for (place, (theirs, ours)) in scene.tables[0].iter().zip(scene.tables[1]).enumerate() {
+        if theirs != ours {
+            println!("word {place} of the table: unit {theirs:#018x}, model {ours:#018x}");
         }
     }
     std::process::exit(1)
@@ -52,6 +63,13 @@ fn print_call(call: &Call) {
             print_lines(&words, 2);
         }
         Call::Fill {
+            row,
+            words,
+            allowance,
+        } => {
+            println!(" row {row:#x} words {words:#018x?} allowance {allowance:#x}");
+        }
+        Call::TableFill {
             row,
             words,
             allowance,

@@ -6,6 +6,7 @@ mod events;
 mod hyp;
 mod pending;
 mod ranges;
+mod regions;
 mod upper;
 
 use crate::call::{Call, Reply, FIRST_EVENT, NAMES};
@@ -15,6 +16,7 @@ use events::Events;
 use hyp::Hyp;
 use pending::Pending;
 use ranges::Ranges;
+use regions::Regions;
 use upper::Upper;
 
 const RUN_ENDS: [&str; 5] = ["Off", "Held", "Empty", "Raised", "Cut"];
@@ -28,9 +30,9 @@ const OUTCOMES: [&str; 6] = [
     "Miss stage 2",
 ];
 const CONFIGS: [usize; 5] = [0, 4, 5, 6, 7];
-/// The refusals that there are. 13 and 14 are none today.
-const REFUSALS: [usize; 16] = [
-    1, 2, 3, 4, 5, 6, 7, 8, 9, 10, 11, 12, 15, 16, 17, 18,
+/// The refusals that there are.
+const REFUSALS: [usize; 18] = [
+    1, 2, 3, 4, 5, 6, 7, 8, 9, 10, 11, 12, 13, 14, 15, 16, 17, 18,
 ];
 const HIGHEST: usize = REFUSALS[REFUSALS.len() - 1];
 
@@ -41,6 +43,7 @@ pub struct Tally {
     refusals: [[u64; HIGHEST + 1]; NAMES.len()],
     run_ends: [u64; 5],
     fill_ends: [u64; 2],
+    table_fill_ends: [u64; 2],
     outcomes: [u64; 6],
     pub commands: Commands,
     pub pending: Pending,
@@ -48,6 +51,7 @@ pub struct Tally {
     pub doubles: Doubles,
     pub hyp: Hyp,
     pub ranges: Ranges,
+    pub regions: Regions,
     pub events: Events,
     configs: [u64; 8],
     config_hits: [u64; 8],
@@ -63,6 +67,7 @@ impl Tally {
             _ if reply.number != 0 => (),
             Call::Run { .. } => self.run_ends[first] += 1,
             Call::Fill { .. } => self.fill_ends[first] += 1,
+            Call::TableFill { .. } => self.table_fill_ends[first] += 1,
             Call::Translate(_) => self.outcomes[first] += 1,
             _ => (),
         }
@@ -81,6 +86,11 @@ impl Tally {
         for (title, names, counts) in [
             ("Ends of runs", &RUN_ENDS[..], &self.run_ends[..]),
             ("Ends of fills", &FILL_ENDS, &self.fill_ends),
+            (
+                "Ends of fills of the second table",
+                &FILL_ENDS,
+                &self.table_fill_ends,
+            ),
             ("Outcomes of transactions", &OUTCOMES, &self.outcomes),
         ] {
             println!("\n{title}");
@@ -95,6 +105,7 @@ impl Tally {
         self.doubles.print(&mut table);
         self.hyp.print(&mut table);
         self.ranges.print(&mut table);
+        self.regions.print(&mut table);
         self.events.print(&mut table);
         table.missing
     }
@@ -137,9 +148,11 @@ fn refusable(call: usize, number: usize) -> bool {
         4 => NAMES[call] == "run",
         5 => NAMES[call] == "doorbell",
         6 => NAMES[call] == "acknowledge",
-        7..=9 | 11 => NAMES[call] == "fill",
+        7..=9 => matches!(NAMES[call], "fill" | "table_fill"),
+        11 => NAMES[call] == "fill",
         10 => NAMES[call] == "translate",
         12 => NAMES[call] == "clear_pending",
+        13 | 14 => matches!(NAMES[call], "run" | "table_fill"),
         17 => NAMES[call] == "event_read",
         18 => NAMES[call] == "event_acknowledge",
         _ => call >= FIRST_EVENT,

@@ -2,15 +2,17 @@
 
 use crate::call::{Asked, Call};
 use crate::interface::*;
-use crate::lent::Lent;
+use crate::lent::{Lent, Memory};
 
 /// Makes the call; returns the number, and leaves eight words in `answer`.
-pub fn perform(call: Call, kept: &mut Lent, answer: &mut Lent) -> u64 {
-    let words = kept.inner().len();
-    let memory = kept.inner_mut().as_mut_ptr();
+pub fn perform(call: Call, lent: &mut Memory, answer: &mut Lent) -> u64 {
+    let (words, rows) = (lent.inner().len(), lent.table().len());
+    let memory = lent.inner_mut().as_mut_ptr();
+    let table = lent.table_mut().as_mut_ptr();
     let answer = answer.inner_mut().as_mut_ptr();
     // SAFETY: the pointers come from live borrows of the lengths given beside
-    // them, eight words for the answer; those of memory and answer are exclusive.
+    // them, eight words for the answer; those of memory, second table and answer are
+    // exclusive.
     unsafe {
         match call {
             Call::Run {
@@ -19,7 +21,9 @@ pub fn perform(call: Call, kept: &mut Lent, answer: &mut Lent) -> u64 {
                 allowance,
             } => {
                 let (first, bytes) = (queue.as_ptr(), queue.len());
-                tahvenno_run(memory, words, first, bytes, features, allowance, answer)
+                tahvenno_run(
+                    memory, words, table, rows, first, bytes, features, allowance, answer,
+                )
             }
             Call::Fill {
                 row,
@@ -32,6 +36,11 @@ pub fn perform(call: Call, kept: &mut Lent, answer: &mut Lent) -> u64 {
             Call::Translate(asked) => translate(memory, words, asked, answer),
             Call::State => tahvenno_state(memory, words, answer),
             Call::ClearPending => tahvenno_clear_pending(memory, words, answer),
+            Call::TableFill {
+                row,
+                words: [w0, w1],
+                allowance,
+            } => tahvenno_table_fill(memory, words, table, rows, row, w0, w1, allowance, answer),
             Call::EventWrite { record, allowance } => {
                 tahvenno_event_write(memory, words, record.as_ptr(), allowance, answer)
             }

@@ -9,13 +9,13 @@ mod hyp;
 mod pending;
 mod ranges;
 mod reasons;
+mod regions;
 mod seen;
 mod upper;
 
 use crate::call::{Call, FIRST_EVENT, NAMES, NUMBERS};
-use crate::generate::random::Random;
-use crate::lent::Lent;
-use crate::limits::{words, ROWS, SLOTS};
+use crate::lent::{Lent, Memory};
+use crate::limits::{words, REGIONS, ROWS, SLOTS};
 use crate::unit;
 use std::process::Command;
 
@@ -27,7 +27,7 @@ enum Fault {
     Narrow(usize, usize),
     /// A number is taken for 0 if its top bit is set, which nobody looks at.
     Shy(usize, usize),
-    /// A word of a call's answer, after refusal 3 or else after 0, never gets to
+    /// A word of a call's answer, after refusal 3 or 14 or else after 0, never gets to
     /// the limit.
     Short(usize, u64, usize, u64),
     /// A call doesn't see what is wrong with the last row of the largest table.
@@ -54,6 +54,8 @@ enum Fault {
     Hyp(hyp::Fault),
     /// Ranges are others.
     Ranges(ranges::Fault),
+    /// The second table is another.
+    Regions(regions::Fault),
 }
 
 pub struct Wrong {
@@ -64,13 +66,15 @@ pub struct Wrong {
 const RUN: usize = 0;
 const TRANSLATE: usize = 5;
 const STATE: usize = 6;
+const TABLE_FILL: usize = 8;
 
-/// A call that the unit has answered: the memory before, the number, and what is
-/// lent, as the unit left it.
+/// A call that the unit has answered: the memory and the second table before, the
+/// number, and what is lent, as the unit left it.
 struct Around<'a> {
     before: &'a [u64],
+    table: &'a [u64],
     number: u64,
-    kept: &'a mut Lent,
+    kept: &'a mut Memory,
     answer: &'a mut Lent,
 }
 
@@ -80,12 +84,14 @@ pub fn all() -> Vec<Wrong> {
     let mut add = |name: String, fault| all.push(Wrong { name, fault });
     for (call, number, word, limit, what) in [
         (RUN, 0, 1, SLOTS, "commands consumed"),
-        (RUN, 0, 2, SLOTS + ROWS, "stores"),
-        (RUN, 0, 3, ROWS, "rows removed"),
+        (RUN, 0, 2, SLOTS + ROWS + REGIONS, "stores"),
+        (RUN, 0, 3, ROWS + REGIONS, "rows removed"),
         (RUN, 0, 4, SLOTS, "CMD_SYNCs"),
         (RUN, 0, 6, SLOTS - 1, "the slot"),
         (STATE, 0, 5, ROWS, "used rows"),
         (STATE, 3, 0, ROWS - 1, "the row that is refused"),
+        (RUN, 14, 0, REGIONS - 1, "the table's row that is refused"),
+        (TABLE_FILL, 14, 0, REGIONS - 1, "the same by a fill"),
     ] {
         let fault = Fault::Short(call, number, word, limit);
         add(format!("{what} below {limit}"), fault);
@@ -127,6 +133,9 @@ fn requests() -> Vec<Wrong> {
     }
     for (name, fault) in ranges::all() {
         add(name, Fault::Ranges(fault));
+    }
+    for (name, fault) in regions::all() {
+        add(name, Fault::Regions(fault));
     }
     all
 }
@@ -172,15 +181,16 @@ fn caught(wrong: &Wrong) -> bool {
 
 impl Wrong {
     /// Makes the call as `unit::perform` does, with the fault.
-    pub fn perform(&self, call: Call, kept: &mut Lent, answer: &mut Lent) -> u64 {
+    pub fn perform(&self, call: Call, kept: &mut Memory, answer: &mut Lent) -> u64 {
         match self.fault {
             Fault::Upper(fault) => return fault.perform(call, kept, answer),
             Fault::Doubles(fault) => return fault.perform(call, kept, answer),
             Fault::Hyp(fault) => return fault.perform(call, kept, answer),
             Fault::Ranges(fault) => return fault.perform(call, kept, answer),
+            Fault::Regions(fault) => return fault.perform(call, kept, answer),
             _ => (),
         }
-        let before = kept.inner().to_vec();
+        let before = kept.copy();
         let number = match (call, self.seen(call)) {
             (
                 Call::Run {
@@ -233,17 +243,19 @@ impl Wrong {
     fn after(
         &self,
         call: Call,
-        before: &[u64],
+        before: &Memory,
         number: u64,
-        kept: &mut Lent,
+        kept: &mut Memory,
         answer: &mut Lent,
     ) -> u64 {
         let last = words(ROWS - 1);
         let row = answer.inner()[0];
+        let (before, table) = (before.inner(), before.table());
         match self.fault {
             Fault::Pending(_) | Fault::Events(_) => {
                 let around = Around {
                     before,
+                    table,
                     number,
                     kept,
                     answer,
@@ -283,13 +295,14 @@ impl Wrong {
 }
 
 /// The call on a memory whose last row is empty; its words come back as they were.
-fn without_last(call: Call, kept: &mut Lent, answer: &mut Lent) -> u64 {
+fn without_last(call: Call, kept: &mut Memory, answer: &mut Lent) -> u64 {
     let last = words(ROWS - 1);
     let mut copy = kept.inner().to_vec();
     copy[last] = 0;
-    let mut copy = Lent::new(&copy, &mut Random::new(0));
+    let mut copy = kept.beside(&copy);
     let number = unit::perform(call, &mut copy, answer);
     kept.inner_mut()[..last].copy_from_slice(&copy.inner()[..last]);
+    kept.table_mut().copy_from_slice(copy.table());
     number
 }
 

@@ -14,6 +14,7 @@
 #define TO UINT64_C(0x8000)
 
 enum { WORDS = TAHVENNO_WORDS(2), LOG2SIZE = 1, PAGE = 12, STREAM = 5, SUBSTREAM = 0 };
+enum { TABLE_WORDS = TAHVENNO_TABLE_WORDS(1) };
 enum { N = 2, EVENT_WORDS = TAHVENNO_EVENT_WORDS(N) };
 
 static uint64_t ask(const uint64_t *kept, uint64_t *answer) { /* a write by the device of the stream, somewhere in the page */
@@ -23,6 +24,7 @@ static uint64_t ask(const uint64_t *kept, uint64_t *answer) { /* a write by the 
 int main(void) {
     uint64_t kept[WORDS] = {TAHVENNO_PUT(TAHVENNO_LOG2SIZE, LOG2SIZE) | TAHVENNO_CMDQEN}; /* enabled, two slots; two empty rows */
     uint8_t queue[TAHVENNO_QUEUE_BYTES(LOG2SIZE)] = {[0] = CMD_TLBI_NSNH_ALL, [TAHVENNO_SLOT_BYTES] = CMD_SYNC, CS_1};
+    uint64_t table[TABLE_WORDS] = {0}; /* the second table, which this guest has no use for: one empty row */
     uint64_t events[EVENT_WORDS] = {TAHVENNO_PUT(TAHVENNO_EVENT_N, N)}; /* an empty recorder of four slots */
     const uint8_t record[TAHVENNO_RECORD_BYTES] = {[0] = F_TRANSLATION, [4] = STREAM};
     uint64_t answer[TAHVENNO_ANSWER_WORDS], refused = 0;
@@ -36,7 +38,7 @@ int main(void) {
     printf("before: outcome %" PRIu64 ", address %" PRIx64 "\n", answer[0], answer[1]);
     refused |= tahvenno_doorbell(kept, WORDS, 2, answer);
     do { /* one store a call, as if power went after each */
-        refused |= tahvenno_run(kept, WORDS, queue, sizeof queue, FEATURES, 1, answer);
+        refused |= tahvenno_run(kept, WORDS, table, TABLE_WORDS, queue, sizeof queue, FEATURES, 1, answer);
     } while (refused == 0 && answer[0] == TAHVENNO_CUT);
     if (kept[0] & TAHVENNO_PENDING) { /* no matter which of these calls consumed the CMD_SYNC; raised first, then cleared */
         printf("interrupt\n");

@@ -2,7 +2,7 @@
 extern "C" {
     fn tahvenno_fill(kept: *mut u64, words: usize, row: u64, w0: u64, w1: u64, w2: u64, w3: u64, allowance: u64, answer: *mut u64) -> u64;
     fn tahvenno_doorbell(kept: *mut u64, words: usize, wr: u64, answer: *mut u64) -> u64;
-    fn tahvenno_run(kept: *mut u64, words: usize, queue: *const u8, bytes: usize, features: u64, allowance: u64, answer: *mut u64) -> u64;
+    fn tahvenno_run(kept: *mut u64, words: usize, table: *mut u64, table_words: usize, queue: *const u8, bytes: usize, features: u64, allowance: u64, answer: *mut u64) -> u64;
     fn tahvenno_clear_pending(kept: *mut u64, words: usize, answer: *mut u64) -> u64;
     fn tahvenno_event_write(events: *mut u64, words: usize, record: *const u8, allowance: u64, answer: *mut u64) -> u64;
     fn tahvenno_event_read(events: *mut u64, words: usize, answer: *mut u64) -> u64;
@@ -47,6 +47,7 @@ const CMD_SYNC: u8 = 0x46;
 const CS_1: u8 = 0x10; // in its second byte: interrupt the guest when it is done
 const F_TRANSLATION: u8 = 0x10; // the event's first byte; its fifth to eighth are the stream
 const WORDS: usize = 1 + 2 * ROW_WORDS;
+const TABLE_WORDS: usize = 2;
 const N: u32 = 2;
 const EVENT_WORDS: usize = 1 + (4 << N);
 const FILL_STORES: u64 = ROW_WORDS as u64;
@@ -73,7 +74,8 @@ fn main() {
     events[0] = u64::from(N) << EVENT_N; // an empty recorder of four slots
     record[0] = F_TRANSLATION;
     record[4..8].copy_from_slice(&STREAM_ID.to_le_bytes());
-    let (k, e, a) = (kept.as_mut_ptr(), events.as_mut_ptr(), answer.as_mut_ptr());
+    let mut table = [0u64; TABLE_WORDS]; // the second table, which this guest has no use for: one empty row
+    let (k, t, e, a) = (kept.as_mut_ptr(), table.as_mut_ptr(), events.as_mut_ptr(), answer.as_mut_ptr());
     unsafe {
         assert_eq!(tahvenno_fill(k, WORDS, 0, ste, ste_1, 0, 0, FILL_STORES, a), 0);
         assert_eq!(tahvenno_fill(k, WORDS, 1, page, 0, FROM, TO, FILL_STORES, a), 0);
@@ -81,7 +83,7 @@ fn main() {
         println!("before: outcome {}, address {:x}", *a, *a.add(1));
         assert_eq!(tahvenno_doorbell(k, WORDS, 2, a), 0);
         // one store a call, as if power went after each, until a run is not cut
-        while tahvenno_run(k, WORDS, queue.as_ptr(), queue.len(), S1P | S2P, 1, a) == 0 && *a == CUT {}
+        while tahvenno_run(k, WORDS, t, TABLE_WORDS, queue.as_ptr(), queue.len(), S1P | S2P, 1, a) == 0 && *a == CUT {}
         // no matter which of these calls consumed the CMD_SYNC; raised first, then cleared
         if *k >> PENDING & 1 == 1 {
             println!("interrupt");

@@ -1,25 +1,27 @@
 /*
- * Tahvenno: the command queue, the cached rows and the translation of an emulated Arm SMMUv3, and a recorder of its events.
+ * Tahvenno: the command queue, the cached rows, the cached regions of a device permission table and the translation of an emulated
+ * Arm SMMUv3, and a recorder of its events.
  *
- * MEMORY. The caller owns everything. `kept` points to the kept memory, `words` 64-bit words: one control word, then rows of
- * four words, 1 to TAHVENNO_MAX_ROWS of them; their layout is below. `queue` points to the guest's command queue, `bytes` bytes
- * of 16 a slot. `events` points to the recorder's words, which are no part of the kept memory, and `record` to 32 bytes (THE
- * RECORDER, below). `answer` points to eight words that the call fills, those not named below with zero. The unit keeps no pointer
- * and no state of its own between calls, allocates nothing, and needs no function of a C library.
+ * MEMORY. The caller owns everything. `kept` points to the kept memory, `words` 64-bit words: one control word, then rows of four
+ * words, 1 to TAHVENNO_MAX_ROWS of them; their layout is below. `table` points to the second table, `table_words` words: rows of
+ * two words, 1 to TAHVENNO_MAX_REGIONS of them (REGIONS, below). `queue` points to the guest's command queue, `bytes` bytes of 16 a
+ * slot. `events` points to the recorder's words, which are no part of the kept memory, and `record` to 32 bytes (THE RECORDER,
+ * below). `answer` points to eight words that the call fills, those not named below with zero. The unit keeps no pointer and no
+ * state of its own between calls, allocates nothing, and needs no function of a C library.
  *
  * The caller sees to this, since the proof takes it for granted:
  *
  *   - No pointer is null, also where a length is 0. What is lent to one call does not overlap.
- *   - kept, events and answer are aligned to 8 bytes. The queue and a record may stand anywhere in Normal memory; where a load that
- *     is not aligned faults (Device memory, alignment checking), align them to 8 bytes too: compiled code loads several of their
- *     bytes at once.
+ *   - kept, table, events and answer are aligned to 8 bytes. The queue and a record may stand anywhere in Normal memory; where a
+ *     load that is not aligned faults (Device memory, alignment checking), align them to 8 bytes too: compiled code loads several
+ *     of their bytes at once.
  *   - Until a call returns nobody else writes to what is lent to it. So lend a private copy of the guest's queue, or stop the
  *     guest: bytes that change during a call are outside the proof.
- *   - One call at a time on one kept memory, and on one recorder. docs/BOX.md has the rules for an agent that reads rows or
- *     records by itself.
+ *   - One call at a time on one kept memory and its second table, and on one recorder. docs/BOX.md has the rules for an agent that
+ *     reads rows or records by itself.
  *
  * WHAT COMES BACK. Each call returns 0 if it was carried out, else the number of its refusal, and then not one word of kept
- * memory or of the recorder has changed. Whatever the words and bytes are, a call ends and gives one of these:
+ * memory, of the second table or of the recorder has changed. Whatever the words and bytes are, a call ends and gives one of these:
  *
  *    1  the length is not 1 + 4 N words, N from 1 to TAHVENNO_MAX_ROWS
  *    2  the control word is ill formed
@@ -27,37 +29,41 @@
  *    4  run: the queue's length is not 16 times 2^LOG2SIZE bytes
  *    5  doorbell: wr is 2^(LOG2SIZE + 1) or more; or more commands would wait than the queue has slots; or fewer than wait now
  *    6  acknowledge: no error is active
- *    7  fill: no such row
- *    8  fill: the row is in use
- *    9  fill: the four words are ill formed or empty
+ *    7  fill, table_fill: no such row
+ *    8  fill, table_fill: the row is in use
+ *    9  fill, table_fill: the words are ill formed or empty
  *   10  translate: MemAttr, SH or hints are ill formed or too wide
  *   11  fill: the new row and one that is there could answer the same access
  *   12  clear_pending: no interrupt is pending
+ *   13  run, table_fill: the second table's length is not 2 N words, N from 1 to TAHVENNO_MAX_REGIONS
+ *   14  run, table_fill: a row of the second table is ill formed; answer[0] is the lowest such row, counted from 0
  *   15  event_write, event_read, event_acknowledge: the length is not 1 + 4 x 2^n words, n from 0 to TAHVENNO_MAX_EVENT_N
  *   16  the same three: the index word is ill formed, or its n is not that of the length
  *   17  event_read: no record waits
  *   18  event_acknowledge: no overflow is outstanding
  *
- * 1, 2 and 3 are tried first, by every call on kept memory, then the others in this order. The calls on the recorder give 15 to 18
- * only, in this order.
+ * 1, 2 and 3 are tried first, by every call on kept memory, then 13 and 14 by the calls that are lent the second table, then the
+ * others in this order. The calls on the recorder give 15 to 18 only, in this order.
  *
  * ALLOWANCES. A run and a fill store single 64-bit words, in an order that does not depend on the allowance, and make at most
- * `allowance` of them: a call with allowance k leaves what a power cut after its k-th store leaves. A fill makes 4 stores; a run
- * makes one for each row that it removes and each command that it consumes, and one if it raises, so never more than there are
- * used rows and waiting commands (TAHVENNO_MAX_STORES at most). An allowance of 0 makes no store: where one is due the call ends
- * Cut, and called so again it never gets further. An event_write has an allowance in the same sense. The other calls store one
- * word or none.
+ * `allowance` of them: a call with allowance k leaves what a power cut after its k-th store leaves. A fill makes 4 stores, a
+ * table_fill 2; a run makes one for each row that it removes, of either table, and each command that it consumes, and one if it
+ * raises, so never more than there are used rows and waiting commands (TAHVENNO_MAX_STORES at most). For each command the rows of
+ * the kept memory come first, then those of the second table, then the control word. An allowance of 0 makes no store: where one is
+ * due the call ends Cut, and called so again it never gets further. An event_write has an allowance in the same sense. The other
+ * calls store one word or none.
  *
- * A run that ended Cut goes on when it is called again. A fill does not: it starts from its first store every time, and until
- * its last store the row is empty. Repeated after it has finished, a fill is refused with 8, an acknowledge with 6 and a
- * clear_pending with 12, a run that raised ends Held, and a doorbell, an enable or a disable stores the same word again.
+ * A run that ended Cut goes on when it is called again, with the same second table. A fill does not, nor a table_fill: it starts
+ * from its first store every time, and until its last store the row is empty. Repeated after it has finished, either is refused
+ * with 8, an acknowledge with 6 and a clear_pending with 12, a run that raised ends Held, and a doorbell, an enable or a disable
+ * stores the same word again.
  *
  * The stores are plain ones with no barrier between them. docs/BOX.md says what the memory, or the caller, has to do so that
  * they arrive in this order.
  *
  * WALK AND FILL. No run may come between the first read of a walk of the guest's tables and the last store of its fill, cut or
  * no cut: the run may consume the command for a change that the walk did not see, and the fill would then make the old mapping
- * valid again. If one came, walk again.
+ * valid again. If one came, walk again. The same holds for a table_fill of what was found in the device permission table.
  *
  * DOUBLES. Of two rows that could answer one access the lower would, whichever of them is right. So a fill gets 11 if its words
  * and a row in use are both last-level and of the same kind, and have the same STREAM (STE), the same STREAM and SUBSTREAM (CD), or
@@ -90,6 +96,19 @@
  * granule and is read as TTL 0. Illegal by TAHVENNO_RESERVED_BIT: NUM, SCALE, TTL or TTL128 with TG 0, TTL128 with TTL 0, and bit
  * 25, since SCALE has five bits here. Without TAHVENNO_RIL all five fields are Reserved.
  *
+ * REGIONS. The second table holds what is cached of the guest's device permission table: each row a region of one of ten sizes,
+ * from 4KB to 512GB. It is lent to every run, of one row at least, also where TAHVENNO_DPT is absent; a table that is not used is
+ * one empty row. With TAHVENNO_DPT there are two more commands, and only these remove rows of it (codes in hexadecimal):
+ *
+ *   70  every row of the second table
+ *   73  the rows within the region of length SIZE from Address on; with Leaf, bit 64, only last-level ones
+ *
+ * Address[55:12] stands in bits 119:76 and SIZE in bits 75:72; every other bit is Reserved, and 70 has no fields. Bits 55:52 of
+ * Address are treated as 0. A row that is larger than SIZE stays, even if it holds the address. A SIZE of 10 to 15, or an Address
+ * that is not a multiple of the size, is legal and removes nothing. Neither code takes a row of the kept memory, and no other code
+ * takes one of the second table. Without TAHVENNO_DPT both are illegal (TAHVENNO_FEATURE_ABSENT). The counts of a run have the
+ * second table's rows in them. No transaction looks at it, and table_fill knows no doubles: it never gives 11.
+ *
  * THE INTERRUPT. A guest asks by CMD_SYNC with CS 1 to be interrupted once the commands before it are done. The store that moves
  * RD past such a command also sets PENDING in the control word, and nothing but clear_pending takes it away. So whenever PENDING
  * is set after a run, raise the guest's interrupt, then call clear_pending, with no run between the two: a CMD_SYNC that a run
@@ -99,8 +118,8 @@
  *
  * THE RECORDER is a ring of records of 32 bytes, in words of its own; no call takes both these and the kept memory. event_write
  * makes 5 stores: the record's four words, the first one first, to the slot at WR, then the index word with WR one further. Until
- * that last store the record is not in the ring, whatever its slot holds; with it the whole record is. So no cut shows a part of it.
- * Each call starts from its first store: where there is room, an allowance below 5 ends Cut however often it is given.
+ * that last store the record is not in the ring, whatever its slot holds; with it the whole record is. So no cut shows a part of
+ * it. Each call starts from its first store: where there is room, an allowance below 5 ends Cut however often it is given.
  *
  * If every slot holds a record that nobody has read, the new one is dropped: the call returns 0 and ends TAHVENNO_EVENT_DROPPED.
  * The first one dropped flips OVERFLOW, by one store; at allowance 0 it ends Cut instead. From then on, until event_acknowledge, an
@@ -113,9 +132,9 @@
  * AFTER A RESTART, in this order:
  *
  *   1. Look at RD, ERR and active by tahvenno_state, and tell the guest what it was not told.
- *   2. Drop the fill that was under way, and whatever was walked before the cut.
- *   3. Call run, with the same queue and features (E2H is one of them), until it does not end Cut. The memory is then that of a
- *      run that was never cut.
+ *   2. Drop the fill that was under way, of either table, and whatever was walked before the cut.
+ *   3. Call run, with the same second table, queue and features (E2H is one of them), until it does not end Cut. Memory and second
+ *      table are then those of a run that was never cut.
  *   4. If PENDING is set, raise the interrupt, then call clear_pending; no run comes between the two.
  *   5. Walk the guest's tables again for what is missing, and fill.
  *
@@ -149,13 +168,16 @@
 extern "C" {
 #endif
 
-/* Sizes: of the kept memory in words, of the queue in bytes. A fill makes as many stores as a row has words, a run at most
- * TAHVENNO_MAX_STORES. */
+/* Sizes: of the kept memory and of the second table in words, of the queue in bytes. A fill makes as many stores as a row has
+ * words, a table_fill likewise, a run at most TAHVENNO_MAX_STORES. */
 #define TAHVENNO_MAX_ROWS 1000
 #define TAHVENNO_ROW_WORDS 4
 #define TAHVENNO_WORDS(rows) (1 + TAHVENNO_ROW_WORDS * (rows))
 #define TAHVENNO_MAX_LOG2SIZE 12
-#define TAHVENNO_MAX_STORES (TAHVENNO_MAX_ROWS + (1 << TAHVENNO_MAX_LOG2SIZE))
+#define TAHVENNO_MAX_REGIONS 128
+#define TAHVENNO_REGION_WORDS 2
+#define TAHVENNO_TABLE_WORDS(rows) (TAHVENNO_REGION_WORDS * (rows))
+#define TAHVENNO_MAX_STORES (TAHVENNO_MAX_ROWS + TAHVENNO_MAX_REGIONS + (1 << TAHVENNO_MAX_LOG2SIZE))
 #define TAHVENNO_SLOT_BYTES 16
 #define TAHVENNO_QUEUE_BYTES(log2size) ((size_t)TAHVENNO_SLOT_BYTES << (log2size))
 #define TAHVENNO_ANSWER_WORDS 8
@@ -259,6 +281,32 @@ extern "C" {
 #define TAHVENNO_SUBSTREAM TAHVENNO_BITS(51, 32)
 #define TAHVENNO_CONFIG TAHVENNO_BITS(54, 52)
 
+/*
+ * A row of the second table: word 0, then the base. It is empty if word 0 is 0, whatever the base is. Else valid is 1, the size is
+ * one of the ten below, bits 63:6 are all 0, and the base is below 2^52 and a multiple of the size. An empty table: 0 in word 0 of
+ * every row. Between calls the caller may also empty a single row, by one 64-bit store of 0 to its word 0.
+ */
+#define TAHVENNO_REGION_VALID TAHVENNO_BITS(0, 0)
+#define TAHVENNO_REGION_LAST_LEVEL TAHVENNO_BITS(1, 1)
+#define TAHVENNO_REGION_SIZE TAHVENNO_BITS(5, 2)
+
+/* Sizes of regions, as SIZE of the command 73 has them. */
+enum {
+    TAHVENNO_4KB,
+    TAHVENNO_16KB,
+    TAHVENNO_64KB,
+    TAHVENNO_2MB,
+    TAHVENNO_32MB,
+    TAHVENNO_512MB,
+    TAHVENNO_1GB,
+    TAHVENNO_16GB,
+    TAHVENNO_64GB,
+    TAHVENNO_512GB
+};
+
+/* Word 0 of a region of a size that is not last-level. */
+#define TAHVENNO_REGION(size) (TAHVENNO_REGION_VALID | TAHVENNO_PUT(TAHVENNO_REGION_SIZE, size))
+
 /* Kinds of rows, and word 0 of a row of a kind with nothing more in it. */
 enum { TAHVENNO_STE, TAHVENNO_CD, TAHVENNO_STAGE1, TAHVENNO_STAGE2 };
 #define TAHVENNO_ROW(kind) (TAHVENNO_VALID | TAHVENNO_PUT(TAHVENNO_KIND, kind))
@@ -297,6 +345,7 @@ enum {
 #define TAHVENNO_VMID16 UINT64_C(8)
 #define TAHVENNO_HYP UINT64_C(16)
 #define TAHVENNO_RIL UINT64_C(32)
+#define TAHVENNO_DPT UINT64_C(64)
 #define TAHVENNO_E2H UINT64_C(128)
 
 /* How a run ends, in answer[0]. */
@@ -310,7 +359,7 @@ enum {
     TAHVENNO_BAD_PARAMETER
 };
 
-/* How a fill ends, in answer[0]. */
+/* How a fill of either table ends, in answer[0]. */
 enum { TAHVENNO_FILLED, TAHVENNO_FILL_CUT };
 
 /* How an event_write ends, in answer[0]. */
@@ -331,15 +380,20 @@ enum {
     TAHVENNO_MISS_STAGE2
 };
 
-/* Carries out the commands that wait. answer: the end, commands consumed, stores made, rows removed, and consumed CMD_SYNCs
- * that ask for an interrupt (CS 1), each of which also sets PENDING; if it ends Raised also why the command is illegal, and its
- * slot (RD without the wrap bit). Neither is kept: a run that is called again ends Held and tells no reason. */
-uint64_t tahvenno_run(uint64_t *kept, size_t words, const uint8_t *queue, size_t bytes, uint64_t features,
-                      uint64_t allowance, uint64_t answer[8]);
+/* Carries out the commands that wait. answer: the end, commands consumed, stores made, rows removed from both tables, and consumed
+ * CMD_SYNCs that ask for an interrupt (CS 1), each of which also sets PENDING; if it ends Raised also why the command is illegal,
+ * and its slot (RD without the wrap bit). Neither is kept: a run that is called again ends Held and tells no reason. */
+uint64_t tahvenno_run(uint64_t *kept, size_t words, uint64_t *table, size_t table_words, const uint8_t *queue, size_t bytes,
+                      uint64_t features, uint64_t allowance, uint64_t answer[8]);
 
 /* Fills an empty row, counted from 0, with four words. answer: the end, stores made. */
 uint64_t tahvenno_fill(uint64_t *kept, size_t words, uint64_t row, uint64_t w0, uint64_t w1, uint64_t w2, uint64_t w3,
                        uint64_t allowance, uint64_t answer[8]);
+
+/* Fills an empty row of the second table, counted from 0: the base w1 is stored first, then w0. Kept memory is only read. answer:
+ * the end, stores made. */
+uint64_t tahvenno_table_fill(const uint64_t *kept, size_t words, uint64_t *table, size_t table_words, uint64_t row, uint64_t w0,
+                             uint64_t w1, uint64_t allowance, uint64_t answer[8]);
 
 /* The guest wrote WR: `wr` is the whole index, with its wrap bit. */
 uint64_t tahvenno_doorbell(uint64_t *kept, size_t words, uint64_t wr, uint64_t answer[8]);

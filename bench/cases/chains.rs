@@ -1,6 +1,6 @@
 //! A table of 32 streams, each with its STE, CD, stage 1 and stage 2 row.
 
-use super::{memory, Case, Per, Work, GUEST_FEATURES, USUAL};
+use super::{memory, Case, Lent, Per, Work, GUEST_FEATURES, USUAL};
 use super::{STAGE1_PAYLOAD, STAGE2_PAYLOAD, STE_PAYLOAD};
 use crate::call::Asked;
 use crate::model::run::End;
@@ -52,7 +52,7 @@ pub fn check() -> Case {
         letter: "e",
         what: "the check of the image alone (a run that ends Off)",
         size: USUAL,
-        kept: memory(USUAL, 0, &rows()),
+        lent: Lent::without_regions(memory(USUAL, 0, &rows())),
         work: Work::Runs {
             queues: vec![vec![0; 16 * USUAL.commands()]],
             features: GUEST_FEATURES,
@@ -70,7 +70,7 @@ pub fn transaction() -> Case {
         letter: "f",
         what: "a transaction of both stages, its rows last",
         size: USUAL,
-        kept: memory(USUAL, 0, &rows()),
+        lent: Lent::without_regions(memory(USUAL, 0, &rows())),
         work: Work::Translate(Asked {
             stream: stream(last) as u32,
             substream: 0,

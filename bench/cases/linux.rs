@@ -1,7 +1,7 @@
 //! What Linux guests sent (crates/verdicts/data), a queueful at a time, each time
 //! over the same full table.
 
-use super::{bytes, memory, shuffle, Case, Command, Per, Work, ENABLED, USUAL};
+use super::{bytes, memory, shuffle, Case, Command, Lent, Per, Work, ENABLED, USUAL};
 use super::{STAGE1_PAYLOAD, STE_PAYLOAD};
 use crate::model::run::End;
 use crate::rows::{cd, ste, Reach, Words, STAGE1};
@@ -78,7 +78,7 @@ pub fn case(letter: &'static str, what: &'static str, guest: Guest) -> Case {
         letter,
         what,
         size: USUAL,
-        kept: memory(USUAL, ENABLED, &rows(&commands)),
+        lent: Lent::without_regions(memory(USUAL, ENABLED, &rows(&commands))),
         work: Work::Runs {
             queues: queues.map(|queue| bytes(USUAL, queue)).collect(),
             features: guest.features,

@@ -4,6 +4,7 @@ mod chains;
 mod linux;
 mod mixed;
 mod pages;
+mod regions;
 
 use crate::call::Asked;
 use crate::limits;
@@ -75,11 +76,32 @@ pub enum Work {
     Fill(u64, Words),
 }
 
+/// What a call may store to: the kept memory, and the second table, of one empty row
+/// where no case is about it.
+#[derive(Clone, PartialEq, Eq)]
+pub struct Lent {
+    pub kept: Vec<u64>,
+    pub table: Vec<u64>,
+}
+
+impl Lent {
+    fn without_regions(kept: Vec<u64>) -> Lent {
+        let table = vec![0; 2];
+        Lent { kept, table }
+    }
+
+    /// Takes over what another one of the same size has.
+    pub fn restore(&mut self, other: &Lent) {
+        self.kept.copy_from_slice(&other.kept);
+        self.table.copy_from_slice(&other.table);
+    }
+}
+
 pub struct Case {
     pub letter: &'static str,
     pub what: &'static str,
     pub size: Size,
-    pub kept: Vec<u64>,
+    pub lent: Lent,
     pub work: Work,
     pub per: Per,
     /// The first word of each call's answer.
@@ -101,7 +123,7 @@ impl Case {
             letter,
             what,
             size,
-            kept: memory(size, ENABLED, rows),
+            lent: Lent::without_regions(memory(size, ENABLED, rows)),
             work: Work::Runs {
                 queues: vec![bytes(size, commands)],
                 features: GUEST_FEATURES,
@@ -156,6 +178,12 @@ pub fn all() -> Vec<Case> {
             "k",
             "a Linux guest's commands, with ranges",
             linux::WITH_RANGES,
+        ),
+        regions::full("l", "as e, beside a full second table", chains::check()),
+        regions::full(
+            "m",
+            "as b, beside a full second table",
+            pages::by_address("b", "", USUAL),
         ),
     ]
 }

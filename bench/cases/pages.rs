@@ -1,7 +1,7 @@
 //! One guest's pages: half the rows are of stage 1 and half of stage 2, and no
 //! command removes any.
 
-use super::{bytes, memory, shuffle, Case, Command, Per, Size, Work};
+use super::{bytes, memory, shuffle, Case, Command, Lent, Per, Size, Work};
 use super::{GUEST_FEATURES, LARGEST, RIL, STAGE1_PAYLOAD, STAGE2_PAYLOAD, USUAL};
 use crate::random::Random;
 use crate::rows::{Reach, Words, STAGE1, STAGE2};
@@ -113,7 +113,7 @@ pub fn fill() -> Case {
         letter: "i",
         what: "a fill at the limits, of a page that no row doubles",
         size: LARGEST,
-        kept: memory(LARGEST, 0, &table),
+        lent: Lent::without_regions(memory(LARGEST, 0, &table)),
         work: Work::Fill(last as u64, reach.page(BLOCK, STAGE1_PAYLOAD)),
         per: Per::Call,
         end: 0,

@@ -2,13 +2,14 @@
 
 use super::random::Random;
 use super::ranges::reaching;
+use super::regions::any_about;
 use super::world::World;
-use crate::limits::{ADDRESS, ROWS, SLOTS};
+use crate::limits::{ADDRESS, REGIONS, ROWS, SLOTS};
 use crate::model::command::{decode, Features};
 
-pub const CODES: [u64; 18] = [
+pub const CODES: [u64; 20] = [
     0x01, 0x02, 0x03, 0x04, 0x05, 0x06, 0x10, 0x11, 0x12, 0x13, 0x20, 0x21, 0x22, 0x23, 0x28, 0x2A,
-    0x30, 0x46,
+    0x30, 0x46, 0x70, 0x73,
 ];
 /// Those of the hypervisor's own rows.
 pub const HYP_CODES: [u64; 4] = [0x20, 0x21, 0x22, 0x23];
@@ -16,18 +17,20 @@ pub const HYP_CODES: [u64; 4] = [0x20, 0x21, 0x22, 0x23];
 pub const RANGED: [u64; 5] = [0x12, 0x13, 0x22, 0x23, 0x2A];
 
 /// Codes that take few rows at a time stand more often than the sweeping ones.
-const USUAL: [u64; 30] = [
+const USUAL: [u64; 35] = [
     0x01, 0x02, 0x03, 0x03, 0x04, 0x04, 0x05, 0x05, 0x06, 0x10, 0x11, 0x11, 0x11, 0x12, 0x12, 0x12,
-    0x13, 0x13, 0x20, 0x21, 0x21, 0x22, 0x22, 0x23, 0x28, 0x2A, 0x2A, 0x30, 0x46, 0x46,
+    0x13, 0x13, 0x20, 0x21, 0x21, 0x22, 0x22, 0x23, 0x28, 0x2A, 0x2A, 0x30, 0x46, 0x46, 0x70, 0x73,
+    0x73, 0x73, 0x73,
 ];
 
-/// The bits of the features: S1P, S2P, ASID16 and VMID16; Hyp; RIL; and the setting
-/// E2H.
+/// The bits of the features: S1P, S2P, ASID16 and VMID16; Hyp; RIL; DPT; and the
+/// setting E2H.
 pub const FOUR: u64 = 0b1111;
 pub const HYP: u64 = 1 << 4;
 pub const RIL: u64 = 1 << 5;
+pub const DPT: u64 = 1 << 6;
 pub const E2H: u64 = 1 << 7;
-pub const KNOWN: u64 = FOUR | HYP | RIL | E2H;
+pub const KNOWN: u64 = FOUR | HYP | RIL | DPT | E2H;
 
 /// Low and high word.
 pub type Command = (u64, u64);
@@ -47,6 +50,9 @@ pub fn of_code(random: &mut Random, world: &World, code: u64) -> Command {
     } else {
         page
     };
+    if code == 0x73 {
+        return any_about(random, world);
+    }
     let low = match code {
         0x01 | 0x02 => random.next() & !0x4FF,
         0x03 | 0x04 | 0x06 => stream,
@@ -130,11 +136,11 @@ pub fn combinations() -> impl Iterator<Item = u64> {
     (0..=KNOWN).filter(|bits| bits & !KNOWN == 0)
 }
 
-/// Hyp, mostly there, and E2H, set or not; by the same draw RIL, there or not.
+/// Hyp, mostly there, and E2H, set or not; by the same draw RIL and DPT, there or not.
 pub fn settings(random: &mut Random) -> u64 {
     let draw = random.next();
     let hyp = [0, E2H, HYP, HYP, HYP, HYP | E2H, HYP | E2H, HYP | E2H];
-    hyp[draw as usize % hyp.len()] | (draw >> 63) * RIL
+    hyp[draw as usize % hyp.len()] | (draw >> 63) * RIL | (draw >> 62 & 1) * DPT
 }
 
 /// Features, often all of them; now and then with bits set that nobody looks at.
@@ -156,7 +162,7 @@ pub fn features(random: &mut Random) -> u64 {
 /// with little in its lower half.
 pub fn allowance(random: &mut Random) -> u64 {
     let small = random.below(12);
-    let middle = random.below(SLOTS + ROWS + 16);
+    let middle = random.below(SLOTS + ROWS + REGIONS + 16);
     let large = random.next() << 32 | small;
     random.pick(&[0, 1, small, small, middle, large, u64::MAX, u64::MAX])
 }

@@ -7,6 +7,7 @@ pub mod events;
 pub mod images;
 pub mod random;
 pub mod ranges;
+pub mod regions;
 pub mod rows;
 pub mod transactions;
 pub mod world;

@@ -1,8 +1,9 @@
 //! Commands: which are legal, what a legal one does (document 01, Commands and
-//! their scopes; document 02, T-05 and T-07), and why another is not (T-09).
+//! their scopes; document 02, T-05, T-07 and T-11), and why another is not (T-09).
 
 use super::range::{self, Fields};
 use super::reason::Reason;
+use super::region::Regions;
 use super::scope::{Page, Scope};
 use super::words::{bit, part};
 
@@ -15,6 +16,7 @@ pub struct Features {
     pub vmid16: bool,
     pub hyp: bool,
     pub ril: bool,
+    pub dpt: bool,
     pub e2h: bool,
 }
 
@@ -28,6 +30,7 @@ impl Features {
             vmid16: bit(bits, 3),
             hyp: bit(bits, 4),
             ril: bit(bits, 5),
+            dpt: bit(bits, 6),
             e2h: bit(bits, 7),
         }
     }
@@ -42,6 +45,8 @@ pub enum Effect {
     /// CMD_SYNC with CS 1, the one that is counted.
     Signal,
     Remove(Scope),
+    /// The same of the second table.
+    RemoveRegions(Regions),
 }
 
 /// Highest and lowest bit, counted over the whole 128-bit command.
@@ -71,6 +76,8 @@ fn named(code: u64) -> Option<&'static [Bits]> {
         0x23 => &[LEAF, ADDRESS],
         0x2A => &[VMID, LEAF, (115, 76)],
         0x46 => &[(13, 12), (27, 22), (63, 32), (127, 64)],
+        0x70 => &[],
+        0x73 => &[LEAF, (75, 72), (119, 76)],
         _ => return None,
     })
 }
@@ -100,6 +107,7 @@ fn supported(code: u64, features: Features) -> bool {
         0x05 | 0x06 | 0x10..=0x13 => features.s1p,
         0x20..=0x23 => features.s1p && features.hyp,
         0x28 | 0x2A => features.s2p,
+        0x70 | 0x73 => features.dpt,
         _ => true,
     }
 }
@@ -137,6 +145,8 @@ pub fn decode(low: u64, high: u64, features: Features) -> Result<Effect, Reason>
         0x01 | 0x02 => Effect::Nothing,
         0x46 if part(low, 13, 12) == 1 => Effect::Signal,
         0x46 => Effect::Nothing,
+        0x70 => Effect::RemoveRegions(Regions::All),
+        0x73 => Effect::RemoveRegions(region(high)),
         _ => Effect::Remove(scope(code, low, high, features)),
     })
 }
@@ -165,6 +175,16 @@ fn scope(code: u64, low: u64, high: u64, features: Features) -> Scope {
         0x28 => Scope::BothStages { vmid },
         0x2A => Scope::Stage2Page(page),
         _ => Scope::Everything,
+    }
+}
+
+/// The region of code 73. Its address has bits 55:12, of which 55:52 are treated as
+/// 0 and those below 12 are 0.
+fn region(high: u64) -> Regions {
+    Regions::Within {
+        address: part(high, 51, 12) << 12,
+        size: part(high, 11, 8),
+        leaf: bit(high, 0),
     }
 }
 

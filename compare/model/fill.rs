@@ -4,7 +4,7 @@ use super::image;
 use super::refusal::Refusal;
 use super::row::Row;
 
-/// Whether all four words were stored, and how many were.
+/// Whether all words were stored, and how many were.
 #[derive(Clone, Copy, Debug, PartialEq, Eq)]
 pub struct Filled {
     pub whole: bool,

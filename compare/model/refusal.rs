@@ -1,5 +1,5 @@
 //! The ways of saying no (document 01, When the unit says no; document 02, T-01,
-//! T-02 and T-08).
+//! T-02, T-08 and T-11).
 
 #[derive(Clone, Copy, Debug, PartialEq, Eq)]
 pub enum Refusal {
@@ -16,6 +16,9 @@ pub enum Refusal {
     Attributes,
     Doubled,
     NotPending,
+    TableLength,
+    /// Carries the lowest ill-formed row of the second table, counted from 0.
+    TableRow(usize),
     EventsLength,
     EventsIndex,
     NoEvent,
@@ -37,6 +40,8 @@ impl Refusal {
             Refusal::Attributes => 10,
             Refusal::Doubled => 11,
             Refusal::NotPending => 12,
+            Refusal::TableLength => 13,
+            Refusal::TableRow(_) => 14,
             Refusal::EventsLength => 15,
             Refusal::EventsIndex => 16,
             Refusal::NoEvent => 17,

@@ -1,10 +1,11 @@
-//! One run over the queue (document 01, One run; document 02, T-08 and T-09).
+//! One run over the queue (document 01, One run; document 02, T-08, T-09 and T-11).
 
 use super::command::{decode, Effect, Features};
 use super::control::Control;
 use super::image;
 use super::reason::{Raised, Reason};
 use super::refusal::Refusal;
+use super::region::{self, Region, Regions};
 use super::row::Row;
 use super::scope::Scope;
 
@@ -37,19 +38,27 @@ pub enum Fate {
     Raised(Raised),
 }
 
-/// The kept memory together with the stores that may still be made in it.
+/// The kept memory and the second table, together with the stores that may still be
+/// made in them.
 struct Writer<'a> {
     kept: &'a mut [u64],
+    table: &'a mut [u64],
     left: u64,
     report: Report,
 }
 
 impl Writer<'_> {
-    /// One store, or the end of the run if none is left.
-    fn store(&mut self, place: usize, word: u64) -> Result<(), End> {
+    /// A store is due: the end of the run if none is left.
+    fn spend(&mut self) -> Result<(), End> {
         self.left = self.left.checked_sub(1).ok_or(End::Cut)?;
-        self.kept[place] = word;
         self.report.stores += 1;
+        Ok(())
+    }
+
+    /// One store to the kept memory.
+    fn store(&mut self, place: usize, word: u64) -> Result<(), End> {
+        self.spend()?;
+        self.kept[place] = word;
         Ok(())
     }
 
@@ -62,12 +71,14 @@ impl Writer<'_> {
         ])
     }
 
-    /// Carries out a legal command: the rows in scope, lowest first, then RD, and
-    /// in the same store the pending bit if it asks for an interrupt.
+    /// Carries out a legal command: the rows in scope of either table, lowest first,
+    /// then RD, and in the same store the pending bit if it asks for an interrupt.
     fn consume(&mut self, mut control: Control, effect: Effect) -> Result<Fate, End> {
         let before = self.report.removed;
-        if let Effect::Remove(scope) = effect {
-            self.remove(scope)?;
+        match effect {
+            Effect::Remove(scope) => self.remove(scope)?,
+            Effect::RemoveRegions(scope) => self.remove_regions(scope)?,
+            Effect::Nothing | Effect::TooWide | Effect::Signal => (),
         }
         control.rd = (control.rd + 1) % control.ring();
         control.pending |= effect == Effect::Signal;
@@ -90,6 +101,17 @@ impl Writer<'_> {
         Ok(())
     }
 
+    fn remove_regions(&mut self, scope: Regions) -> Result<(), End> {
+        for place in (0..self.table.len()).step_by(2) {
+            if scope.takes(&Region([self.table[place], self.table[place + 1]])) {
+                self.spend()?;
+                self.table[place] = 0;
+                self.report.removed += 1;
+            }
+        }
+        Ok(())
+    }
+
     /// Stops at an illegal command, which stays at RD.
     fn raise(&mut self, mut control: Control, reason: Reason) -> Result<Fate, End> {
         control.err = 1;
@@ -106,12 +128,14 @@ impl Writer<'_> {
 /// and fate; a caller who only wants the report passes `|_, _| ()`.
 pub fn run(
     kept: &mut [u64],
+    table: &mut [u64],
     queue: &[u8],
     features: Features,
     allowance: u64,
     mut watch: impl FnMut(u8, Fate),
 ) -> Result<Report, Refusal> {
     let control = image::accept(kept)?;
+    region::accept(table)?;
     if queue.len() as u64 != 16 * control.slots() {
         return Err(Refusal::QueueLength);
     }
@@ -125,6 +149,7 @@ pub fn run(
     };
     let mut writer = Writer {
         kept,
+        table,
         left: allowance,
         report,
     };

@@ -8,6 +8,7 @@ use crate::generate::commands::{features, queue_with, settings, FOUR, HYP};
 use crate::generate::doubles::{fresh, near};
 use crate::generate::images::{control, image, queue_for, shuffle, table, with_rows};
 use crate::generate::random::Random;
+use crate::generate::regions;
 use crate::generate::rows::{any_row, Reach, STAGE1};
 use crate::generate::world::World;
 use crate::limits;
@@ -20,9 +21,10 @@ pub fn cuts(checker: &mut Checker) {
     fills(checker);
 }
 
-/// A memory, its queue and the features to run it with.
+/// A memory, the second table, the queue and the features to run it with.
 pub struct Work {
     pub kept: Vec<u64>,
+    pub table: Vec<u64>,
     pub queue: Vec<u8>,
     pub features: u64,
 }
@@ -34,6 +36,11 @@ impl Work {
             features: self.features,
             allowance,
         }
+    }
+
+    /// A copy of the memory and of the second table.
+    pub fn lent(&self) -> (Vec<u64>, Vec<u64>) {
+        (self.kept.clone(), self.table.clone())
     }
 }
 
@@ -69,6 +76,7 @@ fn full(random: &mut Random, log2size: u64, rows: u64, rarity: u64) -> Work {
     let queue = queue_with(random, &world, features, any.slots(), rarity);
     Work {
         kept: with_rows(full, &rows),
+        table: regions::table(random, &world),
         queue,
         features,
     }
@@ -89,22 +97,24 @@ const SPENT: &str = "a run ended before its stores were made";
 
 /// The run cut after each number of stores, and then called to its end.
 pub fn every_cut(checker: &mut Checker, work: &Work) {
-    let mut whole = work.kept.clone();
-    let uncut = checker.call(&mut whole, work.run(u64::MAX));
-    let mut previous = work.kept.clone();
+    let (mut whole, mut whole_table) = work.lent();
+    let uncut = checker.both(&mut whole, &mut whole_table, work.run(u64::MAX));
+    let (mut previous, mut previous_table) = work.lent();
     for allowance in 0..=uncut.answer[2] {
-        let mut kept = work.kept.clone();
+        let (mut kept, mut table) = work.lent();
         let call = work.run(allowance);
-        let first = checker.call(&mut kept, call);
-        let single = changed(&previous, &kept) == allowance.min(1);
+        let first = checker.both(&mut kept, &mut table, call);
+        let words = changed(&previous, &kept) + changed(&previous_table, &table);
+        let single = words == allowance.min(1);
         checker.insist(single, SINGLE, &work.kept, call, (first, &kept));
         previous.clone_from(&kept);
+        previous_table.clone_from(&table);
         let mut sums = first.answer;
         if first.answer[0] == CUT {
-            let rest = checker.call(&mut kept, work.run(u64::MAX));
+            let rest = checker.both(&mut kept, &mut table, work.run(u64::MAX));
             add(&mut sums, rest.answer);
         }
-        let equal = kept == whole && sums == uncut.answer;
+        let equal = kept == whole && table == whole_table && sums == uncut.answer;
         checker.insist(equal, SAME, &work.kept, call, (first, &kept));
     }
 }
@@ -150,6 +160,7 @@ fn one_row_each(random: &mut Random) -> Work {
     shuffle(random, &mut commands);
     Work {
         kept: with_rows(waiting(limits::LOG2SIZE, limits::SLOTS), &rows),
+        table: regions::empty(),
         queue: bytes(&commands),
         features: 0b1111,
     }
@@ -157,21 +168,21 @@ fn one_row_each(random: &mut Random) -> Work {
 
 /// One run cut at so many places, each call going on where the last was cut.
 pub fn all_along(checker: &mut Checker, work: &Work) {
-    let mut whole = work.kept.clone();
+    let (mut whole, mut whole_table) = work.lent();
     let call = work.run(u64::MAX);
-    let uncut = checker.call(&mut whole, call);
+    let uncut = checker.both(&mut whole, &mut whole_table, call);
     let stores = uncut.answer[2];
-    let mut kept = work.kept.clone();
+    let (mut kept, mut table) = work.lent();
     let mut sums = [CUT, 0, 0, 0, 0, 0, 0, 0];
     for place in 1..=PLACES {
         let allowance = stores * place / (PLACES + 1) - sums[2];
-        let reply = checker.call(&mut kept, work.run(allowance));
+        let reply = checker.both(&mut kept, &mut table, work.run(allowance));
         add(&mut sums, reply.answer);
         checker.insist(sums[0] == CUT, SPENT, &work.kept, call, (reply, &kept));
     }
-    let rest = checker.call(&mut kept, call);
+    let rest = checker.both(&mut kept, &mut table, call);
     add(&mut sums, rest.answer);
-    let equal = kept == whole && sums == uncut.answer;
+    let equal = kept == whole && table == whole_table && sums == uncut.answer;
     checker.insist(equal, SAME, &work.kept, call, (uncut, &kept));
 }
 
@@ -185,6 +196,7 @@ fn chains(checker: &mut Checker) {
         let queue = queue_for(&mut random, &world, &kept, features);
         let work = Work {
             kept,
+            table: regions::table(&mut random, &world),
             queue,
             features,
         };
@@ -193,18 +205,18 @@ fn chains(checker: &mut Checker) {
 }
 
 fn chain(checker: &mut Checker, random: &mut Random, work: &Work) {
-    let mut whole = work.kept.clone();
+    let (mut whole, mut whole_table) = work.lent();
     let call = work.run(u64::MAX);
-    let uncut = checker.call(&mut whole, call);
+    let uncut = checker.both(&mut whole, &mut whole_table, call);
     let step = random.pick(&[1, 2, 5, 20]).max(uncut.answer[2] / 8);
-    let mut kept = work.kept.clone();
+    let (mut kept, mut table) = work.lent();
     let mut sums = [CUT, 0, 0, 0, 0, 0, 0, 0];
     while sums[0] == CUT {
         let allowance = random.between(0, 2 * step);
-        let reply = checker.call(&mut kept, work.run(allowance));
+        let reply = checker.both(&mut kept, &mut table, work.run(allowance));
         add(&mut sums, reply.answer);
     }
-    let equal = kept == whole && sums == uncut.answer;
+    let equal = kept == whole && table == whole_table && sums == uncut.answer;
     checker.insist(equal, SAME, &work.kept, call, (uncut, &kept));
 }
 

@@ -13,6 +13,7 @@ pub mod limits;
 pub mod pending;
 pub mod ranges;
 pub mod reasons;
+pub mod regions;
 pub mod sequences;
 pub mod single;
 pub mod upper;

@@ -6,6 +6,7 @@ use crate::checker::Checker;
 use crate::generate::commands::{allowance, features, spoilt, usual};
 use crate::generate::images::{image, queue_for};
 use crate::generate::random::Random;
+use crate::generate::regions;
 use crate::generate::transactions::aimed;
 use crate::generate::world::World;
 use crate::model::control::Control;
@@ -17,10 +18,12 @@ pub fn sequences(checker: &mut Checker) {
         let features = features(&mut random);
         let kept = image(&mut random, &world);
         let queue = queue_for(&mut random, &world, &kept, features);
+        let table = regions::table(&mut random, &world);
         let mut sequence = Sequence {
             world,
             features,
             kept,
+            table,
             queue,
         };
         for _ in 0..40 {
@@ -33,6 +36,7 @@ struct Sequence {
     world: World,
     features: u64,
     kept: Vec<u64>,
+    table: Vec<u64>,
     queue: Vec<u8>,
 }
 
@@ -44,6 +48,9 @@ impl Sequence {
         if (draw >> 32) % 6 == 0 {
             checker.call(&mut self.kept, Call::ClearPending);
         }
+        if (draw >> 48) % 6 == 0 {
+            self.fill_table(checker, draw);
+        }
         let call = match draw % 16 {
             0..=4 => return self.run(checker, random),
             5..=7 => any_fill(random, &self.world, &self.kept),
@@ -52,7 +59,19 @@ impl Sequence {
             14 => Call::State,
             _ => return self.recover(checker, random),
         };
-        checker.call(&mut self.kept, call);
+        checker.both(&mut self.kept, &mut self.table, call);
+    }
+
+    /// A fill of the second table; what comes of it hangs on the draw alone, too.
+    fn fill_table(&mut self, checker: &mut Checker, draw: u64) {
+        let mut own = Random::new(draw);
+        let (row, words, allowance) = regions::any_fill(&mut own, &self.world, &self.table);
+        let call = Call::TableFill {
+            row,
+            words,
+            allowance,
+        };
+        checker.both(&mut self.kept, &mut self.table, call);
     }
 
     /// The guest writes a few commands where it will, and rings.
@@ -85,7 +104,7 @@ impl Sequence {
             features: self.features,
             allowance,
         };
-        let reply = checker.call(&mut self.kept, call);
+        let reply = checker.both(&mut self.kept, &mut self.table, call);
         if reply.number == 0 && reply.answer[0] == RAISED && !random.once_in(4) {
             if !random.once_in(3) {
                 self.write(random, Control::fields(self.kept[0]).slot());

@@ -7,6 +7,7 @@ use crate::generate::damage::{damage, elsewhere, misfit};
 use crate::generate::doubles::{fresh, near};
 use crate::generate::images::{image, leftover, queue_for};
 use crate::generate::random::Random;
+use crate::generate::regions;
 use crate::generate::rows::{any_row, EL2, EL2_E2H};
 use crate::generate::transactions::aimed;
 use crate::generate::world::World;
@@ -14,7 +15,7 @@ use crate::limits::ROWS;
 use crate::model::control::Control;
 
 /// Runs and transactions have more to them than the other calls.
-const USUAL: [usize; 12] = [0, 0, 0, 0, 1, 2, 3, 4, 5, 5, 5, 6];
+const USUAL: [usize; 13] = [0, 0, 0, 0, 1, 2, 3, 4, 5, 5, 5, 6, 7];
 
 pub fn accepted(checker: &mut Checker) {
     let mut random = checker.phase("single calls on accepted memories");
@@ -32,13 +33,14 @@ pub fn damaged(checker: &mut Checker) {
         let world = World::new(&mut random);
         let mut kept = image(&mut random, &world);
         damage(&mut random, &mut kept);
-        let index = random.below(7) as usize;
+        let index = random.below(8) as usize;
         any_call(checker, &mut random, &world, &mut kept, index);
     }
 }
 
 /// A call of the given index with arguments that fit the memory, or nearly: one of
-/// document 01's seven. The one of T-08 has phases of its own.
+/// document 01's seven, or a fill of the second table. The one of T-08 has phases of
+/// its own.
 pub fn any_call(
     checker: &mut Checker,
     random: &mut Random,
@@ -53,7 +55,8 @@ pub fn any_call(
         3 => Call::Acknowledge,
         4 => any_enable(random),
         5 => aimed(random, world, kept),
-        _ => Call::State,
+        6 => Call::State,
+        _ => return any_table_fill(checker, random, world, kept),
     };
     checker.call(kept, call);
 }
@@ -70,7 +73,27 @@ fn any_run(checker: &mut Checker, random: &mut Random, world: &World, kept: &mut
         features,
         allowance: allowance(random),
     };
-    checker.call(kept, call);
+    checker.both(kept, &mut any_table(random, world), call);
+}
+
+/// A second table; one in sixteen is damaged.
+fn any_table(random: &mut Random, world: &World) -> Vec<u64> {
+    let mut table = regions::table(random, world);
+    if random.once_in(16) {
+        regions::damage(random, &mut table);
+    }
+    table
+}
+
+fn any_table_fill(checker: &mut Checker, random: &mut Random, world: &World, kept: &mut [u64]) {
+    let mut table = any_table(random, world);
+    let (row, words, allowance) = regions::any_fill(random, world, &table);
+    let call = Call::TableFill {
+        row,
+        words,
+        allowance,
+    };
+    checker.both(kept, &mut table, call);
 }
 
 pub fn any_enable(random: &mut Random) -> Call<'static> {

@@ -118,7 +118,7 @@ fn possible(code: u64, reason: Reason) -> bool {
     match reason {
         Reason::UnknownCode => !known,
         Reason::FeatureAbsent => {
-            matches!(code, 0x05 | 0x06 | 0x10..=0x13 | 0x20..=0x23 | 0x28 | 0x2A)
+            matches!(code, 0x05 | 0x06 | 0x10..=0x13 | 0x20..=0x23 | 0x28 | 0x2A | 0x70 | 0x73)
         }
         Reason::ReservedBit => known,
         Reason::BadParameter => code == 0x46 || RANGED.contains(&code),

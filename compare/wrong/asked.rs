@@ -1,7 +1,7 @@
 //! A command as a fault sees it, and runs over another one in its place.
 
 use crate::call::{Call, RAISED};
-use crate::lent::Lent;
+use crate::lent::{Lent, Memory};
 use crate::unit;
 
 /// A command, and the features.
@@ -71,7 +71,7 @@ pub fn with(call: Call, (asked, slot): (Asked, u64), perform: impl FnOnce(Call) 
 /// The run, with another reason if it raised.
 pub fn retold(
     call: Call,
-    memory: &mut Lent,
+    memory: &mut Memory,
     answer: &mut Lent,
     told: fn(&Asked, u64) -> u64,
 ) -> u64 {

@@ -1,7 +1,7 @@
 //! Wrong units that refuse other fills with 11 (document 02, T-02).
 
 use crate::call::Call;
-use crate::lent::Lent;
+use crate::lent::{Lent, Memory};
 use crate::limits::ADDRESS;
 use crate::model::image::{place, rows};
 use crate::model::row::{Kind, Row};
@@ -224,7 +224,7 @@ type Fill = (usize, [u64; 4], u64);
 
 impl Fault {
     /// Makes the call as `unit::perform` does, with the fault.
-    pub fn perform(self, call: Call, memory: &mut Lent, answer: &mut Lent) -> u64 {
+    pub fn perform(self, call: Call, memory: &mut Memory, answer: &mut Lent) -> u64 {
         let before = memory.inner().to_vec();
         let number = unit::perform(call, memory, answer);
         let Call::Fill {
@@ -273,7 +273,7 @@ impl Fault {
         self,
         before: &[u64],
         (row, words, _): Fill,
-        memory: &mut Lent,
+        memory: &mut Memory,
         answer: &mut [u64],
     ) -> u64 {
         let old = rows(before).position(|old| Row(words).doubles(&old));
@@ -287,7 +287,7 @@ impl Fault {
 }
 
 /// The fill as it is without a refusal.
-fn filled((row, words, allowance): Fill, memory: &mut Lent, answer: &mut Lent) -> u64 {
+fn filled((row, words, allowance): Fill, memory: &mut Memory, answer: &mut Lent) -> u64 {
     let stores = allowance.min(4);
     for word in [1, 2, 3, 0].into_iter().take(stores as usize) {
         memory.inner_mut()[place(row) + word] = words[word];

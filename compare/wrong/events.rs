@@ -7,7 +7,7 @@ mod writes;
 use super::Around;
 use crate::call::{Call, Reply, FIRST_EVENT, WRITE_CUT};
 use crate::generate::random::Random;
-use crate::lent::Lent;
+use crate::lent::{Lent, Memory};
 use crate::model::events::Index;
 use crate::unit;
 
@@ -144,7 +144,7 @@ impl Made<'_> {
     /// What the unit makes of a call on other words.
     fn asked(&self, words: &[u64], call: Call) -> (Vec<u64>, Reply) {
         let mut random = Random::new(0);
-        let mut kept = Lent::new(words, &mut random);
+        let mut kept = Memory::new(words, &[], &mut random);
         let mut answer = Lent::new(&[0; 8], &mut random);
         let number = unit::perform(call, &mut kept, &mut answer);
         let answer = std::array::from_fn(|word| answer.inner()[word]);

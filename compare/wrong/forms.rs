@@ -3,7 +3,7 @@
 use super::seen::seen;
 use crate::call::Call;
 use crate::generate::random::Random;
-use crate::lent::Lent;
+use crate::lent::{Lent, Memory};
 use crate::model::image::{place, rows};
 use crate::model::row::Row;
 use crate::unit;
@@ -51,11 +51,11 @@ pub fn all<'a>(
 
 impl Fault {
     /// Makes the call as `unit::perform` does, with the fault.
-    pub fn perform(self, call: Call, memory: &mut Lent, answer: &mut Lent) -> u64 {
+    pub fn perform(self, call: Call, memory: &mut Memory, answer: &mut Lent) -> u64 {
         match self {
             Fault::Takes(of, made) if of == call.index() => seen(call, memory, answer, made),
             _ => {
-                let before = memory.inner().to_vec();
+                let before = memory.copy();
                 let number = unit::perform(call, memory, answer);
                 self.spoil(call, (&before, number), memory, answer.inner_mut())
             }
@@ -66,24 +66,24 @@ impl Fault {
     fn spoil(
         self,
         call: Call,
-        (before, number): (&[u64], u64),
-        memory: &mut Lent,
+        (before, number): (&Memory, u64),
+        memory: &mut Memory,
         answer: &mut [u64],
     ) -> u64 {
         match (self, call, number) {
             (Fault::Refuses(of, test), _, 0 | 3..) if of == call.index() => {
                 let bad = |row: Row| row.used() && test(&row);
-                let lowest = rows(before).position(bad).map(|row| row as u64);
+                let lowest = rows(before.inner()).position(bad).map(|row| row as u64);
                 let Some(lowest) = lowest.filter(|&row| number != 3 || row < answer[0]) else {
                     return number;
                 };
-                memory.inner_mut().copy_from_slice(before);
+                memory.take(before);
                 answer.fill(0);
                 answer[0] = lowest;
                 3
             }
             (Fault::Unfit(test), Call::Fill { words, .. }, 0) if test(&Row(words)) => {
-                memory.inner_mut().copy_from_slice(before);
+                memory.take(before);
                 answer.fill(0);
                 9
             }
@@ -100,7 +100,7 @@ impl Fault {
 fn fill(
     call: Call,
     (row, words, seen): (u64, [u64; 4], [u64; 4]),
-    memory: &mut Lent,
+    memory: &mut Memory,
     answer: &mut [u64],
 ) -> u64 {
     let mut numbers = call.numbers();

@@ -10,7 +10,7 @@ use super::{doubles, forms};
 use crate::call::{Call, FIRST_EVENT, NAMES};
 use crate::generate::commands::HYP;
 use crate::generate::rows::{EL2, EL2_E2H};
-use crate::lent::Lent;
+use crate::lent::{Lent, Memory};
 use crate::limits::UPPER;
 use crate::model::row::{Kind, Regime, Row};
 use crate::unit;
@@ -187,7 +187,7 @@ const MISS_STAGE_1: u64 = 4;
 
 impl Fault {
     /// Makes the call as `unit::perform` does, with the fault.
-    pub fn perform(self, call: Call, memory: &mut Lent, answer: &mut Lent) -> u64 {
+    pub fn perform(self, call: Call, memory: &mut Memory, answer: &mut Lent) -> u64 {
         match (self, call) {
             (Fault::Form(form), _) => form.perform(call, memory, answer),
             (Fault::Doubles(fault), _) => fault.perform(call, memory, answer),
@@ -207,7 +207,7 @@ impl Fault {
     }
 
     /// The run over the only command that waits.
-    fn command(self, call: Call, slot: u64, memory: &mut Lent, answer: &mut Lent) -> u64 {
+    fn command(self, call: Call, slot: u64, memory: &mut Memory, answer: &mut Lent) -> u64 {
         let asked = Asked::at(call, slot);
         match self {
             Fault::Scans(codes, row) if codes.contains(&asked.code()) => {
@@ -222,7 +222,7 @@ impl Fault {
 }
 
 /// A transaction that would find another row if marked ones answered.
-fn hidden(call: Call, memory: &mut Lent, answer: &mut Lent) -> u64 {
+fn hidden(call: Call, memory: &mut Memory, answer: &mut Lent) -> u64 {
     let number = unit::perform(call, memory, answer);
     let right = answer.inner().to_vec();
     seen(call, memory, answer, |row| match owned(&row) {

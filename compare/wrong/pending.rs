@@ -2,8 +2,7 @@
 
 use super::Around;
 use crate::call::{Call, CUT, FIRST_EVENT, NAMES, RAISED};
-use crate::generate::random::Random;
-use crate::lent::Lent;
+use crate::lent::{Lent, Memory};
 use crate::model::control::Control;
 use crate::unit;
 
@@ -183,7 +182,7 @@ fn command<'a>(queue: &'a [u8], control: Control, index: u64) -> &'a [u8] {
     &queue[16 * slot as usize..][..16]
 }
 
-fn put(kept: &mut Lent, pending: bool) {
+fn put(kept: &mut Memory, pending: bool) {
     let word = &mut kept.inner_mut()[0];
     *word = *word & !PENDING | u64::from(pending) << 55;
 }
@@ -194,6 +193,7 @@ impl Fault {
     pub fn spoil(self, call: Call, around: Around) -> u64 {
         let Around {
             before,
+            table,
             number,
             kept,
             answer,
@@ -204,6 +204,7 @@ impl Fault {
         match (self, number) {
             (Fault::IllFormed(of), _) if of == call.index() && number != 1 && was => {
                 kept.inner_mut().copy_from_slice(before);
+                kept.table_mut().copy_from_slice(table);
                 answer.inner_mut().fill(0);
                 return 2;
             }
@@ -234,7 +235,7 @@ impl Fault {
     }
 
     /// The same for a run that was carried out.
-    fn spoil_run(self, call: Call, before: u64, kept: &mut Lent, answer: &mut [u64]) {
+    fn spoil_run(self, call: Call, before: u64, kept: &mut Memory, answer: &mut [u64]) {
         let Call::Run {
             queue, allowance, ..
         } = call
@@ -268,12 +269,12 @@ impl Fault {
 }
 
 /// The call on a memory whose control word lacks the bit; it comes back with it.
-fn without(bit: u32, call: Call, kept: &mut Lent, answer: &mut Lent) -> u64 {
+fn without(bit: u32, call: Call, kept: &mut Memory, answer: &mut Lent) -> u64 {
     let mut copy = kept.inner().to_vec();
     copy[0] ^= 1 << bit;
-    let mut copy = Lent::new(&copy, &mut Random::new(0));
+    let mut copy = kept.beside(&copy);
     let number = unit::perform(call, &mut copy, answer);
-    kept.inner_mut().copy_from_slice(copy.inner());
+    kept.take(&copy);
     kept.inner_mut()[0] ^= 1 << bit;
     number
 }

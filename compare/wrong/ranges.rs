@@ -6,7 +6,7 @@ mod places;
 use super::asked::{retold, with, Asked};
 use super::seen::{one_by_one, seen};
 use crate::call::Call;
-use crate::lent::Lent;
+use crate::lent::{Lent, Memory};
 use crate::model::command::{decode, ranged, Features};
 use crate::model::range::Fields;
 use crate::model::row::{Kind, Row};
@@ -67,7 +67,7 @@ impl Asked {
 
 impl Fault {
     /// Makes the call as `unit::perform` does, with the fault.
-    pub fn perform(self, call: Call, memory: &mut Lent, answer: &mut Lent) -> u64 {
+    pub fn perform(self, call: Call, memory: &mut Memory, answer: &mut Lent) -> u64 {
         match (self, call) {
             (Fault::Told(told), Call::Run { .. }) => retold(call, memory, answer, told),
             (_, Call::Run { .. }) => {
@@ -80,7 +80,7 @@ impl Fault {
     }
 
     /// The run over the only command that waits.
-    fn command(self, call: Call, slot: u64, memory: &mut Lent, answer: &mut Lent) -> u64 {
+    fn command(self, call: Call, slot: u64, memory: &mut Memory, answer: &mut Lent) -> u64 {
         let asked = Asked::at(call, slot);
         match self {
             Fault::Reads(read) => with(call, (read(asked), slot), |call| {

@@ -3,7 +3,7 @@
 
 use crate::call::{Call, CUT, RAISED};
 use crate::generate::random::Random;
-use crate::lent::Lent;
+use crate::lent::{Lent, Memory};
 use crate::model::control::Control;
 use crate::unit;
 
@@ -126,7 +126,7 @@ fn reason(command: &[u8], features: u64) -> u64 {
         ..Control::fields(0)
     };
     let mut random = Random::new(0);
-    let mut kept = Lent::new(&[control.pack(), 0, 0, 0, 0], &mut random);
+    let mut kept = Memory::new(&[control.pack(), 0, 0, 0, 0], &[0, 0], &mut random);
     let mut answer = Lent::new(&[0; 8], &mut random);
     let call = Call::Run {
         queue: command,

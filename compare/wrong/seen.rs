@@ -1,8 +1,7 @@
 //! The unit on rows that are seen otherwise, and a run as runs of one command each.
 
 use crate::call::{Call, CUT};
-use crate::generate::random::Random;
-use crate::lent::Lent;
+use crate::lent::{Lent, Memory};
 use crate::model::control::Control;
 use crate::model::image::{place, rows};
 use crate::model::row::Row;
@@ -10,15 +9,16 @@ use crate::unit;
 
 /// The call on rows that are seen otherwise; what is stored is stored in those that
 /// are there.
-pub fn seen(call: Call, memory: &mut Lent, answer: &mut Lent, see: impl Fn(Row) -> Row) -> u64 {
+pub fn seen(call: Call, memory: &mut Memory, answer: &mut Lent, see: impl Fn(Row) -> Row) -> u64 {
     let mut before = memory.inner().to_vec();
     for (number, row) in rows(memory.inner()).enumerate() {
         if row.used() {
             before[place(number)..][..4].copy_from_slice(&see(row).0);
         }
     }
-    let mut copy = Lent::new(&before, &mut Random::new(0));
+    let mut copy = memory.beside(&before);
     let number = unit::perform(call, &mut copy, answer);
+    memory.table_mut().copy_from_slice(copy.table());
     let stored = copy.inner().iter().zip(&before);
     for (word, (new, old)) in memory.inner_mut().iter_mut().zip(stored) {
         if new != old {
@@ -29,14 +29,14 @@ pub fn seen(call: Call, memory: &mut Lent, answer: &mut Lent, see: impl Fn(Row) 
 }
 
 /// The run over the only command that waits.
-pub trait Each: Fn(Call, u64, &mut Lent, &mut Lent) -> u64 {}
-impl<T: Fn(Call, u64, &mut Lent, &mut Lent) -> u64> Each for T {}
+pub trait Each: Fn(Call, u64, &mut Memory, &mut Lent) -> u64 {}
+impl<T: Fn(Call, u64, &mut Memory, &mut Lent) -> u64> Each for T {}
 
 const EMPTY: u64 = 2;
 
 /// A run of one command after the other, each of them by a run of its own that is
 /// told the slot.
-pub fn one_by_one(call: Call, memory: &mut Lent, answer: &mut Lent, each: impl Each) -> u64 {
+pub fn one_by_one(call: Call, memory: &mut Memory, answer: &mut Lent, each: impl Each) -> u64 {
     let mut sums = [0; 4];
     loop {
         let (number, over) = step(with_left(call, sums[1]), memory, answer, &each);
@@ -58,8 +58,8 @@ fn with_left(call: Call, made: u64) -> Call {
 }
 
 /// One command, or where none is due the end of the run; whether it was the end.
-fn step(call: Call, memory: &mut Lent, answer: &mut Lent, each: &impl Each) -> (u64, bool) {
-    let mut copy = Lent::new(memory.inner(), &mut Random::new(0));
+fn step(call: Call, memory: &mut Memory, answer: &mut Lent, each: &impl Each) -> (u64, bool) {
+    let mut copy = memory.copy();
     let none = call.passing(&[call.numbers()[0], 0]);
     if unit::perform(none, &mut copy, answer) != 0 || answer.inner()[0] != CUT {
         return (unit::perform(call, memory, answer), true);

@@ -3,7 +3,7 @@
 use super::forms;
 use super::seen::{one_by_one, seen};
 use crate::call::{Call, FIRST_EVENT, NAMES};
-use crate::lent::Lent;
+use crate::lent::{Lent, Memory};
 use crate::limits::{ADDRESS, UPPER};
 use crate::model::image::place;
 use crate::model::row::{Kind, Row};
@@ -262,7 +262,7 @@ fn as_stage2(row: Row) -> Row {
 
 impl Fault {
     /// Makes the call as `unit::perform` does, with the fault.
-    pub fn perform(self, call: Call, memory: &mut Lent, answer: &mut Lent) -> u64 {
+    pub fn perform(self, call: Call, memory: &mut Memory, answer: &mut Lent) -> u64 {
         match (self, call) {
             (Fault::Form(form), _) => form.perform(call, memory, answer),
             (Fault::Looks(configs, row, address), Call::Translate(mut asked)) => {
@@ -290,7 +290,7 @@ impl Fault {
     }
 
     /// What comes back, once the unit was called.
-    fn spoil(self, call: Call, number: u64, memory: &mut Lent, answer: &mut [u64]) {
+    fn spoil(self, call: Call, number: u64, memory: &mut Memory, answer: &mut [u64]) {
         match (self, call, number) {
             (Fault::Narrow, Call::Fill { row, .. }, 0) if answer[1] >= 2 => {
                 memory.inner_mut()[place(row as usize) + 2] %= ADDRESS;
@@ -310,7 +310,7 @@ type Scan = (&'static [u8], Seen, Changed);
 fn command(
     call: Call,
     slot: u64,
-    memory: &mut Lent,
+    memory: &mut Memory,
     answer: &mut Lent,
     (codes, row, address): Scan,
 ) -> u64 {

@@ -5,6 +5,7 @@ use super::{bytes, first, waiting, ASID, PAGE, SETTINGS, WRITE_BACK};
 use crate::checker::Checker;
 use crate::generate::commands::Command;
 use crate::generate::images::with_rows;
+use crate::generate::regions::empty;
 use crate::generate::rows::{marked, Reach, Words, EL2_E2H};
 use crate::limits::{LOG2SIZE, ROWS, SLOTS};
 use crate::phases::cuts::{all_along, every_cut, Work};
@@ -16,6 +17,7 @@ pub fn sweeps(checker: &mut Checker) {
             let commands = commands();
             let work = Work {
                 kept: with_rows(waiting(2, 3), &rows()),
+                table: empty(),
                 queue: bytes(&[commands[first], (0x1046, 0), commands[second], (0, 0)]),
                 features,
             };
@@ -67,6 +69,7 @@ fn one_row_each(features: u64) -> Work {
     let commands: Vec<Command> = (0..SLOTS).map(command).collect();
     Work {
         kept: with_rows(waiting(LOG2SIZE, SLOTS), &rows),
+        table: empty(),
         queue: bytes(&commands),
         features,
     }

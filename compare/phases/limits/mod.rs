@@ -34,6 +34,9 @@ const ASID: u64 = 9;
 const PAGE: u64 = 0x1000;
 const MIDDLE: u64 = 0x8000;
 const OUTPUT: u64 = 0xC000;
+/// A region of the second table, of 4KB and not last-level.
+const VALID: u64 = 1;
+const REGION: u64 = 0x7000;
 
 /// SHCFG 1: the shareability stays as it comes in.
 const AS_IT_COMES: u64 = 1 << 5;
@@ -124,6 +127,11 @@ pub fn every_call(checker: &mut Checker, kept: &[u64], queue: &[u8]) {
         words: cd(STREAM, SUBSTREAM, ASID),
         allowance: u64::MAX,
     };
+    let table_fill = Call::TableFill {
+        row: 0,
+        words: [VALID, REGION],
+        allowance: u64::MAX,
+    };
     let wr = kept.first().map_or(0, |word| word >> 20 & 0xF_FFFF);
     let calls = [
         run,
@@ -134,6 +142,7 @@ pub fn every_call(checker: &mut Checker, kept: &[u64], queue: &[u8]) {
         Call::Translate(asked()),
         Call::State,
         Call::ClearPending,
+        table_fill,
     ];
     for call in calls {
         checker.call(&mut kept.to_vec(), call);
@@ -153,6 +162,11 @@ fn every_refused(checker: &mut Checker, kept: &[u64]) {
         words: [2; 4],
         allowance: u64::MAX,
     };
+    let table_fill = |row| Call::TableFill {
+        row,
+        words: [2; 2],
+        allowance: u64::MAX,
+    };
     let ill_formed = Asked {
         memattr: 4,
         ..asked()
@@ -165,6 +179,8 @@ fn every_refused(checker: &mut Checker, kept: &[u64]) {
         Call::Acknowledge,
         Call::Translate(ill_formed),
         Call::ClearPending,
+        table_fill(0),
+        table_fill(u64::MAX),
     ];
     for call in calls {
         checker.call(&mut kept.to_vec(), call);

@@ -7,12 +7,13 @@
 //! call. The gate tries it with each two of them exchanged (wrong.rs).
 
 use super::{asked, bytes, chain, first, second, table, waiting, ALL, AS_IT_COMES};
-use super::{ASID, OUTPUT, PAGE, STAGE1_PAYLOAD, STREAM, SUBSTREAM, VMID, WRITE_BACK};
+use super::{ASID, MIDDLE, OUTPUT, PAGE, STAGE1_PAYLOAD, STREAM, SUBSTREAM, VMID, WRITE_BACK};
 use crate::call::{Call, NUMBERS};
 use crate::checker::Checker;
-use crate::generate::commands::RIL;
+use crate::generate::commands::{DPT, RIL};
 use crate::generate::images::with_rows;
 use crate::generate::ranges::Range;
+use crate::generate::regions::{about, empty, region, with_regions};
 use crate::generate::rows::{cd, cd_table, ste, ste_block, Reach, Words};
 use crate::limits::LOG2SIZE;
 use crate::model::control::Control;
@@ -21,6 +22,7 @@ pub fn sweeps(checker: &mut Checker) {
     checker.phase("limits: every bit of every number passed");
     transactions(checker);
     fills(checker);
+    table_fills(checker);
     runs(checker);
     controls(checker);
 }
@@ -28,14 +30,20 @@ pub fn sweeps(checker: &mut Checker) {
 /// The call as it is, then with each number's bits changed one at a time, and
 /// with each number at its least and at its largest.
 fn sweep(checker: &mut Checker, kept: &[u64], call: Call) {
+    sweep_beside(checker, kept, &empty(), call);
+}
+
+/// The same with a second table.
+fn sweep_beside(checker: &mut Checker, kept: &[u64], table: &[u64], call: Call) {
     let numbers = call.numbers();
-    checker.call(&mut kept.to_vec(), call);
+    checker.both(&mut kept.to_vec(), &mut table.to_vec(), call);
     for (place, &(_, bits)) in NUMBERS[call.index()].iter().enumerate() {
         let flipped = (0..bits).map(|bit| numbers[place] ^ 1 << bit);
         for number in flipped.chain([0, u64::MAX >> (64 - bits)]) {
             let mut others = numbers.clone();
             others[place] = number;
-            checker.call(&mut kept.to_vec(), call.passing(&others));
+            let call = call.passing(&others);
+            checker.both(&mut kept.to_vec(), &mut table.to_vec(), call);
         }
     }
 }
@@ -80,8 +88,32 @@ fn fills(checker: &mut Checker) {
     }
 }
 
+/// Row 2 of five is to be filled in the second table; 3 is empty too, the others are in
+/// use.
+fn table_fills(checker: &mut Checker) {
+    let kept = with_rows(waiting(0, 0), &table(5, &[]));
+    let used = region(0, true, PAGE);
+    let table = with_regions(&[used, used, [0, 0], [0, 0], used]);
+    for words in [
+        region(0, true, PAGE),
+        region(9, false, 0),
+        region(1, true, MIDDLE),
+    ] {
+        for allowance in [0, 1, 2] {
+            let row = 2;
+            let call = Call::TableFill {
+                row,
+                words,
+                allowance,
+            };
+            sweep_beside(checker, &kept, &table, call);
+        }
+    }
+}
+
 /// A row and a command for each feature: 13 and 28 want one, 11 and 10 have an ASID
-/// and a VMID of more than eight bits, and the last one has a range.
+/// and a VMID of more than eight bits, one has a range, and 73 and 70 are about a row of
+/// the second table each.
 fn runs(checker: &mut Checker) {
     let (wide_asid, wide_vmid) = (0x100 | ASID, 0x200 | VMID);
     let of = |vmid, asid| {
@@ -104,22 +136,29 @@ fn runs(checker: &mut Checker) {
         (0x10 | wide_vmid << 32, 0),
         (0x13, PAGE),
         (0x28 | VMID << 32, 0),
-        (0x1046, 0),
-        (0x30, 0),
+        about(PAGE, 0, 0),
+        (0x70, 0),
         Range::new(1, 1, 0).over((0x13, PAGE)),
     ]);
+    let table = with_regions(&[region(0, true, PAGE), region(1, true, PAGE)]);
     let kept = with_rows(waiting(3, 8), &rows);
-    for features in [0, 0b0101, 0b0010, 0b1011, ALL, ALL | RIL] {
-        for allowance in [0, 3, 6, u64::MAX] {
-            sweep(
-                checker,
-                &kept,
-                Call::Run {
-                    queue: &queue,
-                    features,
-                    allowance,
-                },
-            );
+    for features in [
+        0,
+        0b0101,
+        0b0010,
+        0b1011,
+        ALL,
+        ALL | RIL,
+        ALL | DPT,
+        ALL | RIL | DPT,
+    ] {
+        for allowance in [0, 3, 6, 9, u64::MAX] {
+            let call = Call::Run {
+                queue: &queue,
+                features,
+                allowance,
+            };
+            sweep_beside(checker, &kept, &table, call);
         }
     }
 }

@@ -11,6 +11,7 @@ use super::{bytes, from, run};
 use crate::checker::Checker;
 use crate::generate::commands::Command;
 use crate::generate::images::with_rows;
+use crate::generate::regions::empty;
 use crate::generate::rows::{cd, cd_table, Words};
 use crate::model::control::Control;
 
@@ -62,6 +63,7 @@ fn every_queue(commands: u32, mut each: impl FnMut(&Work)) {
             };
             each(&Work {
                 kept: with_rows(control, &rows()),
+                table: empty(),
                 queue: queue.clone(),
                 features: ALL,
             });

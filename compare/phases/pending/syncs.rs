@@ -5,6 +5,7 @@ use super::{bytes, every_queue, run, ALL, KINDS, LOG2SIZE, STREAM};
 use crate::checker::Checker;
 use crate::generate::images::{shuffle, with_rows};
 use crate::generate::random::Random;
+use crate::generate::regions::empty;
 use crate::generate::rows::cd_table;
 use crate::limits;
 use crate::model::control::Control;
@@ -63,6 +64,7 @@ fn one_of_many(random: &mut Random, pending: bool) -> Work {
     };
     Work {
         kept: with_rows(control, &rows),
+        table: empty(),
         queue: bytes(&commands),
         features: ALL,
     }

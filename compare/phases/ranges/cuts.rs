@@ -5,6 +5,7 @@ use crate::checker::Checker;
 use crate::generate::commands::Command;
 use crate::generate::images::with_rows;
 use crate::generate::ranges::Range;
+use crate::generate::regions::empty;
 use crate::generate::rows::Words;
 use crate::limits::{LOG2SIZE, ROWS, SLOTS, UPPER};
 use crate::phases::cuts::{all_along, every_cut, Work};
@@ -51,6 +52,7 @@ fn few(code: u64, features: u64, tg: u64) -> Work {
     queue.resize(8, (0, 0));
     Work {
         kept: with_rows(waiting(3, commands.len() as u64), &rows),
+        table: empty(),
         queue: bytes(&queue),
         features,
     }
@@ -72,6 +74,7 @@ fn one_row_each(code: u64, features: u64) -> Work {
     let commands: Vec<Command> = (0..SLOTS).map(command).collect();
     Work {
         kept: with_rows(waiting(LOG2SIZE, SLOTS), &rows),
+        table: empty(),
         queue: bytes(&commands),
         features,
     }

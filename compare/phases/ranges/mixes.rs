@@ -7,6 +7,7 @@ use crate::generate::commands::{features, of_code, spoilt, Command, RANGED, RIL}
 use crate::generate::images::{shuffle, table, with_rows};
 use crate::generate::random::Random;
 use crate::generate::ranges::any;
+use crate::generate::regions::empty;
 use crate::generate::rows::{marked, Reach, Words, MARKS, STAGE1, STAGE2};
 use crate::generate::world::World;
 use crate::limits::{ADDRESS, UPPER};
@@ -111,6 +112,7 @@ fn mixed(random: &mut Random, round: u64) -> Work {
     let commands: Vec<Command> = (0..1 << log2size).map(|_| command(random)).collect();
     Work {
         kept: with_rows(waiting(log2size, 1 << log2size), &rows),
+        table: empty(),
         queue: bytes(&commands),
         features: features(random) | if round % 8 == 0 { 0 } else { RIL },
     }

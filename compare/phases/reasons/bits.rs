@@ -10,7 +10,8 @@ const CS_3: u64 = 3 << 12;
 
 pub fn sweeps(checker: &mut Checker) {
     checker.phase("reasons: each bit changed in bare and in full commands");
-    // Those of T-05 have more features, and a phase of their own.
+    // Those of T-05 have more features, and a phase of their own; so have those of T-11,
+    // which are illegal without theirs.
     for code in CODES.into_iter().filter(|code| !HYP_CODES.contains(code)) {
         each_bit(checker, (code, 0));
         each_bit(checker, full(code));

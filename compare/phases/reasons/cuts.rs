@@ -6,6 +6,7 @@ use crate::checker::Checker;
 use crate::generate::commands::Command;
 use crate::generate::images::{shuffle, with_rows};
 use crate::generate::random::Random;
+use crate::generate::regions::empty;
 use crate::generate::rows::{cd, cd_table, ste, Reach, Words, STAGE1};
 use crate::limits::{LOG2SIZE, ROWS, SLOTS};
 use crate::phases::cuts::{all_along, every_cut, Work};
@@ -49,6 +50,7 @@ fn raising(
     commands.rotate_right((rd % slots) as usize);
     let work = Work {
         kept: with_rows(control, rows),
+        table: empty(),
         queue: bytes(&commands),
         features: FEATURES,
     };

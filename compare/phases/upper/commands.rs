@@ -5,6 +5,7 @@ use super::{ALL, ASID, ENDS, VMID};
 use crate::checker::Checker;
 use crate::generate::commands::Command;
 use crate::generate::images::with_rows;
+use crate::generate::regions::empty;
 use crate::generate::rows::{Reach, Words};
 use crate::limits::{ADDRESS, SPANS, UPPER};
 use crate::phases::cuts::{every_cut, Work};
@@ -120,6 +121,7 @@ fn cut(checker: &mut Checker, span: u64, page: u64) {
     let [by_asid, by_page, by_stage2, _] = by_address(page, 0);
     let work = Work {
         kept: with_rows(waiting(2, 3), &rows_at(span, page)),
+        table: empty(),
         queue: bytes(&[by_stage2, by_asid, by_page, (0x46, 0)]),
         features: ALL,
     };

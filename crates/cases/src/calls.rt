@@ -2,24 +2,46 @@
 use crate::show;
 use attributes::Attributes;
 
-// c asks for the state; r runs with features and an allowance; f fills a row with four words under an allowance; d rings with a
-// WR; a acknowledges; p clears the pending bit; e enables or disables; t translates. Of a recorder w writes four words under an
-// allowance, o reads the oldest, x acknowledges. A call that may store also tells every word afterwards.
-pub fn call(verb: u8, w: [u64; 8], kept: &mut [u64], queue: &[u8]) {
+// c asks for the state; r runs with features and an allowance, and u tells the second table too; f fills a row with four words under an allowance; g fills one of the
+// second table with two; d rings with a WR; a acknowledges; p clears the pending bit; e enables or disables; t translates. Of a
+// recorder w writes four words under an allowance, o reads the oldest, x acknowledges. A call that may store also tells every word
+// afterwards of what it stores to.
+pub fn call(verb: u8, w: [u64; 8], kept: &mut [u64], table: &mut [u64], queue: &[u8]) {
     let mut answer = [0u64; 8];
-    let code = made(verb, w, &mut *kept, queue, &mut answer);
+    let code = made(verb, w, &mut *kept, &mut *table, queue, &mut answer);
     show::reply(verb, code, answer);
     match verb {
         b'c' | b't' => text::say(b"\n"),
+        b'g' => text::listed(b"; table", &*table),
+        b'u' => {
+            text::listed(b"; kept", &*kept);
+            text::listed(b"  table", &*table);
+        }
         _ => text::listed(b"; kept", &*kept),
     }
 }
 
-fn made(verb: u8, w: [u64; 8], kept: &mut [u64], queue: &[u8], answer: &mut [u64; 8]) -> u64 {
+fn made(
+    verb: u8,
+    w: [u64; 8],
+    kept: &mut [u64],
+    table: &mut [u64],
+    queue: &[u8],
+    answer: &mut [u64; 8],
+) -> u64 {
     match verb {
         b'c' => host::tahvenno_state(&*kept, &mut *answer),
-        b'r' => host::tahvenno_run(&mut *kept, queue, w[0], w[1], &mut *answer),
+        b'r' | b'u' => host::tahvenno_run(&mut *kept, &mut *table, queue, w[0], w[1], &mut *answer),
         b'f' => host::tahvenno_fill(&mut *kept, w[0], w[1], w[2], w[3], w[4], w[5], &mut *answer),
+        b'g' => host::tahvenno_table_fill(
+            &*kept,
+            &mut *table,
+            w[0],
+            w[1],
+            w[2],
+            w[3],
+            &mut *answer,
+        ),
         b'd' => host::tahvenno_doorbell(&mut *kept, w[0], &mut *answer),
         b'a' => host::tahvenno_acknowledge(&mut *kept, &mut *answer),
         b'p' => host::tahvenno_clear_pending(&mut *kept, &mut *answer),

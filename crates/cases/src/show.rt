@@ -6,6 +6,7 @@ pub fn reply(verb: u8, code: u64, w: [u64; 8]) {
     match code {
         0 => done(verb, w),
         3 => told(b"refused 3, row #", w),
+        14 => told(b"refused 14, row #", w),
         _ => told(b"refused #", [code, 0, 0, 0, 0, 0, 0, 0]),
     }
 }
@@ -16,8 +17,8 @@ fn done(verb: u8, w: [u64; 8]) {
             b"accepted, RD 0x$, WR 0x$, ERR #, active #, enabled #, used #",
             w,
         ),
-        b'r' => run(w),
-        b'f' => told(b"{Filled|Cut}, stores #", w),
+        b'r' | b'u' => run(w),
+        b'f' | b'g' => told(b"{Filled|Cut}, stores #", w),
         b't' => outcome(w),
         b'w' => told(b"{Stored|Dropped|Cut}, stores #", w),
         b'o' => told(b"record $ $ $ $", w),

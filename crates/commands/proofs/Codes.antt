@@ -11,8 +11,8 @@ use Rattle.words.specs.Choice.{pick}
 use Rattle.words.specs.Ranges.{get}
 use Rattle.words.specs.Search.{placeOf}
 use Rattle.commands.specs.declared.Features.{Features}
-use Rattle.commands.specs.declared.Command.the-variants.{Sync}
-use Rattle.commands.specs.Formats.{csBits, Format, formats, howMany, codeIn, needsIn, commandIn}
+use Rattle.commands.specs.declared.Command.the-variants.{DptiPa}
+use Rattle.commands.specs.Formats.{dptPageBits, sizeBits, leafBits, isSetIn, dpt, Format, formats, howMany, codeIn, needsIn, commandIn}
 use Rattle.commands.specs.Decoding.{at, featurePresent, commandOf}
 
 -- the last arm knows that it is none of the keys, one after the other
@@ -45,13 +45,13 @@ either-way : {A : Type 0} → (b : Bool) (x : A) → x ≡ pick b x x
 either-way true x = refl
 either-way false x = refl
 
-pub last-present : (f : Features) (x : ℕ) → NoneOf Unit (map codeIn others) x → true ≡ featurePresent f x
+pub last-present : (f : Features) (x : ℕ) → NoneOf Unit (map codeIn others) x → dpt f ≡ featurePresent f x
 unfolding featurePresent
 last-present f x n =
-    either-way (eqb x 0x46) true ∙ no-line (λ (l : Format). needsIn l f) (pick (eqb x 0x46) true true) Unit others x n
+    either-way (eqb x 0x73) (dpt f) ∙ no-line (λ (l : Format). needsIn l f) (pick (eqb x 0x73) (dpt f) (dpt f)) Unit others x n
 
-pub last-command : (c x : ℕ) → NoneOf Unit (map codeIn others) x → Sync (get csBits c) ≡ commandOf x c
+pub last-command : (c x : ℕ) → NoneOf Unit (map codeIn others) x → DptiPa (get dptPageBits c) (get sizeBits c) (isSetIn leafBits c) ≡ commandOf x c
 unfolding commandOf
 last-command c x n =
-    let is = Sync (get csBits c) in
-    either-way (eqb x 0x46) is ∙ no-line (λ (l : Format). commandIn l c) (pick (eqb x 0x46) is is) Unit others x n
+    let is = DptiPa (get dptPageBits c) (get sizeBits c) (isSetIn leafBits c) in
+    either-way (eqb x 0x73) is ∙ no-line (λ (l : Format). commandIn l c) (pick (eqb x 0x73) is is) Unit others x n

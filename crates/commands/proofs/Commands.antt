@@ -1,14 +1,14 @@
 -- A command by its code and the fields that were read.
 -- Assumes nothing.
-use mathlib.Core.Path.{_≡_, ap, _∙_}
+use mathlib.Core.Path.{_≡_}
 use mathlib.Core.Bool.{Bool}
 use mathlib.Core.List.{map}
 use Prim.Native.Nat.{ℕ}
 use Rattle.words.specs.Ranges.{get}
 use Rattle.commands.specs.declared.Target.{Target}
 use Rattle.commands.specs.declared.Command.{Command}
-use Rattle.commands.specs.declared.Command.the-variants.{PrefetchConfig, PrefetchAddr, CfgiSte, CfgiSteRange, CfgiCd, CfgiCdAll, TlbiNhAll, TlbiNhAsid, TlbiNhVa, TlbiNhVaa, TlbiEl2All, TlbiEl2Asid, TlbiEl2Va, TlbiEl2Vaa, TlbiS12Vmall, TlbiS2Ipa, TlbiNsnhAll, Sync}
-use Rattle.commands.specs.Formats.{streamBits, substreamBits, vmidBits, asidBits, csBits, leafBits, rangeBits, pageBits, ipaPageBits, isSetIn, targetOf, codeIn}
+use Rattle.commands.specs.declared.Command.the-variants.{PrefetchConfig, PrefetchAddr, CfgiSte, CfgiSteRange, CfgiCd, CfgiCdAll, TlbiNhAll, TlbiNhAsid, TlbiNhVa, TlbiNhVaa, TlbiEl2All, TlbiEl2Asid, TlbiEl2Va, TlbiEl2Vaa, TlbiS12Vmall, TlbiS2Ipa, TlbiNsnhAll, Sync, DptiAll, DptiPa}
+use Rattle.commands.specs.Formats.{streamBits, substreamBits, vmidBits, asidBits, csBits, leafBits, rangeBits, pageBits, ipaPageBits, dptPageBits, sizeBits, isSetIn, targetOf, codeIn}
 use Rattle.commands.specs.Decoding.{commandOf}
 use Rattle.commands.proofs.Codes.{NoneOf, others, last-command}
 
@@ -83,5 +83,14 @@ module _ (code c : ℕ) where
   unfolding commandOf
   is-30 e = rw e
 
-  pub is-46 : (s : ℕ) → NoneOf Unit (map codeIn others) code → s ≡ get csBits c → Sync s ≡ commandOf code c
-  is-46 s n p = ap Sync p ∙ last-command c code n
+  pub is-46 : (s : ℕ) → code ≡ 0x46 → s ≡ get csBits c → Sync s ≡ commandOf code c
+  unfolding commandOf
+  is-46 s e p = rw (e, p)
+
+  pub is-70 : code ≡ 0x70 → DptiAll ≡ commandOf code c
+  unfolding commandOf
+  is-70 e = rw e
+
+  pub is-73 : (p s : ℕ) (l : Bool) → NoneOf Unit (map codeIn others) code → p ≡ get dptPageBits c → s ≡ get sizeBits c → l ≡ isSetIn leafBits c
+      → DptiPa p s l ≡ commandOf code c
+  is-73 p s l n x y z = rw (x, y, z) (last-command c code n)

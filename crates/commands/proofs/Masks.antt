@@ -41,6 +41,8 @@ masks =
     ∷ (0xffff000000ff ∷ 0xffffffffff001 ∷ [])
     ∷ (0xff ∷ 0x0 ∷ [])
     ∷ (0xffffffff0fc030ff ∷ 0xffffffffffffffff ∷ [])
+    ∷ (0xff ∷ 0x0 ∷ [])
+    ∷ (0xff ∷ 0xffffffffffff01 ∷ [])
     ∷ []
 
 -- the k-th pair under the features
@@ -61,21 +63,21 @@ fits f s k =
 
 tested : (f : Features) (s : Shape) → all howMany (fits f s) ≡ true
 unfolding fits isSet
-tested f s = by-bits (f .s1p) (f .s2p) (f .asid16) (f .vmid16) (f .hyp) (f .e2h) (f .ril) (s .ranged) (s .hinted)
+tested f s = by-bits (f .s1p) (f .s2p) (f .asid16) (f .vmid16) (f .hyp) (f .e2h) (f .ril) (f .dpt) (s .ranged) (s .hinted)
   where
-    by-bits : (s1p s2p asid16 vmid16 hyp e2h ril ranged hinted : Bool)
+    by-bits : (s1p s2p asid16 vmid16 hyp e2h ril dpt ranged hinted : Bool)
         → all howMany
-        (fits record { s1p = s1p; s2p = s2p; asid16 = asid16; vmid16 = vmid16; hyp = hyp; e2h = e2h; ril = ril }
+        (fits record { s1p = s1p; s2p = s2p; asid16 = asid16; vmid16 = vmid16; hyp = hyp; e2h = e2h; ril = ril; dpt = dpt }
         record { ranged = ranged; hinted = hinted })
         ≡ true
-    by-bits s1p true asid16 vmid16 hyp e2h false ranged hinted = passed tt
-    by-bits s1p true asid16 vmid16 hyp e2h true false hinted = passed tt
-    by-bits s1p true asid16 vmid16 hyp e2h true true false = passed tt
-    by-bits s1p true asid16 vmid16 hyp e2h true true true = passed tt
-    by-bits s1p false asid16 vmid16 hyp e2h false ranged hinted = passed tt
-    by-bits s1p false asid16 vmid16 hyp e2h true false hinted = passed tt
-    by-bits s1p false asid16 vmid16 hyp e2h true true false = passed tt
-    by-bits s1p false asid16 vmid16 hyp e2h true true true = passed tt
+    by-bits s1p true asid16 vmid16 hyp e2h false dpt ranged hinted = passed tt
+    by-bits s1p true asid16 vmid16 hyp e2h true dpt false hinted = passed tt
+    by-bits s1p true asid16 vmid16 hyp e2h true dpt true false = passed tt
+    by-bits s1p true asid16 vmid16 hyp e2h true dpt true true = passed tt
+    by-bits s1p false asid16 vmid16 hyp e2h false dpt ranged hinted = passed tt
+    by-bits s1p false asid16 vmid16 hyp e2h true dpt false hinted = passed tt
+    by-bits s1p false asid16 vmid16 hyp e2h true dpt true false = passed tt
+    by-bits s1p false asid16 vmid16 hyp e2h true dpt true true = passed tt
 
 pub right-masks : (f : Features) (s : Shape) (k : ℕ) → k < howMany → MasksOf (namedAt f s k) (maskOf f s k)
 unfolding fits

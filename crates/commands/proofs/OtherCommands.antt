@@ -8,7 +8,7 @@ use lib.Dec.{eqb}
 use types.Run.{OneOf, miss}
 use denote.Enum.Declared.{tagOf}
 use Rattle.commands.specs.declared.Command.{Command}
-use Rattle.commands.specs.declared.Command.the-variants.{PrefetchConfig, PrefetchAddr, CfgiSte, CfgiSteRange, CfgiCd, CfgiCdAll, TlbiNhAll, TlbiNhAsid, TlbiNhVa, TlbiNhVaa, TlbiEl2All, TlbiEl2Asid, TlbiEl2Va, TlbiEl2Vaa, TlbiS12Vmall, TlbiS2Ipa, TlbiNsnhAll, Sync}
+use Rattle.commands.specs.declared.Command.the-variants.{PrefetchConfig, PrefetchAddr, CfgiSte, CfgiSteRange, CfgiCd, CfgiCdAll, TlbiNhAll, TlbiNhAsid, TlbiNhVa, TlbiNhVaa, TlbiEl2All, TlbiEl2Asid, TlbiEl2Va, TlbiEl2Vaa, TlbiS12Vmall, TlbiS2Ipa, TlbiNsnhAll, Sync, DptiAll, DptiPa}
 use Rattle.commands.proofs.Command.{the-type}
 use Rattle.words.specs.Choice.{pick}
 use Rattle.commands.specs.Formats.{howMany}
@@ -42,3 +42,5 @@ not-counted (TlbiS12Vmall v) m = refl
 not-counted (TlbiS2Ipa v t) m = refl
 not-counted TlbiNsnhAll m = refl
 not-counted (Sync cs) m = absurd (miss others (tagOf the-type (Sync cs)) tt m)
+not-counted DptiAll m = refl
+not-counted (DptiPa p s l) m = refl

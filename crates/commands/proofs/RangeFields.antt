@@ -39,21 +39,21 @@ fits f s k = not (rangedAt k) || (all 24 (low f s k) && all 11 (high f s k))
 
 tested : (f : Features) (s : Shape) → all howMany (fits f s) ≡ true
 unfolding fits low high same
-tested f s = by-bits (f .s1p) (f .s2p) (f .asid16) (f .vmid16) (f .hyp) (f .e2h) (f .ril) (s .ranged) (s .hinted)
+tested f s = by-bits (f .s1p) (f .s2p) (f .asid16) (f .vmid16) (f .hyp) (f .e2h) (f .ril) (f .dpt) (s .ranged) (s .hinted)
   where
-    by-bits : (s1p s2p asid16 vmid16 hyp e2h ril ranged hinted : Bool)
+    by-bits : (s1p s2p asid16 vmid16 hyp e2h ril dpt ranged hinted : Bool)
         → all howMany
-        (fits record { s1p = s1p; s2p = s2p; asid16 = asid16; vmid16 = vmid16; hyp = hyp; e2h = e2h; ril = ril }
+        (fits record { s1p = s1p; s2p = s2p; asid16 = asid16; vmid16 = vmid16; hyp = hyp; e2h = e2h; ril = ril; dpt = dpt }
         record { ranged = ranged; hinted = hinted })
         ≡ true
-    by-bits s1p true asid16 vmid16 hyp e2h false ranged hinted = passed tt
-    by-bits s1p true asid16 vmid16 hyp e2h true false hinted = passed tt
-    by-bits s1p true asid16 vmid16 hyp e2h true true false = passed tt
-    by-bits s1p true asid16 vmid16 hyp e2h true true true = passed tt
-    by-bits s1p false asid16 vmid16 hyp e2h false ranged hinted = passed tt
-    by-bits s1p false asid16 vmid16 hyp e2h true false hinted = passed tt
-    by-bits s1p false asid16 vmid16 hyp e2h true true false = passed tt
-    by-bits s1p false asid16 vmid16 hyp e2h true true true = passed tt
+    by-bits s1p true asid16 vmid16 hyp e2h false dpt ranged hinted = passed tt
+    by-bits s1p true asid16 vmid16 hyp e2h true dpt false hinted = passed tt
+    by-bits s1p true asid16 vmid16 hyp e2h true dpt true false = passed tt
+    by-bits s1p true asid16 vmid16 hyp e2h true dpt true true = passed tt
+    by-bits s1p false asid16 vmid16 hyp e2h false dpt ranged hinted = passed tt
+    by-bits s1p false asid16 vmid16 hyp e2h true dpt false hinted = passed tt
+    by-bits s1p false asid16 vmid16 hyp e2h true dpt true false = passed tt
+    by-bits s1p false asid16 vmid16 hyp e2h true dpt true true = passed tt
 
 module _ (f : Features) (s : Shape) (k : ℕ) (h : k < howMany) (r : rangedAt k ≡ true) where
   both : (all 24 (low f s k) && all 11 (high f s k)) ≡ true
@@ -81,7 +81,7 @@ module _ (f : Features) where
     where
       by-ril : (ril ranged hinted : Bool) → ranged ≡ false
           → namedAt
-          record { s1p = f .s1p; s2p = f .s2p; asid16 = f .asid16; vmid16 = f .vmid16; hyp = f .hyp; e2h = f .e2h; ril = ril }
+          record { s1p = f .s1p; s2p = f .s2p; asid16 = f .asid16; vmid16 = f .vmid16; hyp = f .hyp; e2h = f .e2h; ril = ril; dpt = f .dpt }
           record { ranged = ranged; hinted = hinted } k
           ≡ namedAt (withoutRil f) record { ranged = ranged; hinted = hinted } k
       by-ril true false hinted z = refl

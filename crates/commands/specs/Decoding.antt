@@ -1,4 +1,4 @@
--- Document 01, Commands and their scopes, with document 02, T-05, T-07 and T-09: which commands are legal, and what they are.
+-- Document 01, Commands and their scopes, with document 02, T-05, T-07, T-09 and T-11: which commands are legal, and what they are.
 -- Assumes nothing.
 use Prim.Native.Nat.{ℕ, _+_, _*_}
 use mathlib.Core.Bool.{Bool, true, false, not, _&&_, _||_}
@@ -11,12 +11,12 @@ use Rattle.words.specs.Search.{placeOf}
 use Rattle.words.specs.Bytes.{wordAt}
 use Rattle.commands.specs.declared.Features.{Features}
 use Rattle.commands.specs.declared.Command.{Command}
-use Rattle.commands.specs.declared.Command.the-variants.{PrefetchConfig, PrefetchAddr, CfgiSte, CfgiSteRange, CfgiCd, CfgiCdAll, TlbiNhAll, TlbiNhAsid, TlbiNhVa, TlbiNhVaa, TlbiEl2All, TlbiEl2Asid, TlbiEl2Va, TlbiEl2Vaa, TlbiS12Vmall, TlbiS2Ipa, TlbiNsnhAll, Sync}
+use Rattle.commands.specs.declared.Command.the-variants.{PrefetchConfig, PrefetchAddr, CfgiSte, CfgiSteRange, CfgiCd, CfgiCdAll, TlbiNhAll, TlbiNhAsid, TlbiNhVa, TlbiNhVaa, TlbiEl2All, TlbiEl2Asid, TlbiEl2Va, TlbiEl2Vaa, TlbiS12Vmall, TlbiS2Ipa, TlbiNsnhAll, Sync, DptiAll, DptiPa}
 use Rattle.commands.specs.declared.Reason.{Reason}
 use Rattle.commands.specs.declared.Reason.the-variants.{UnknownCode, FeatureAbsent, ReservedBit, BadParameter}
 use Rattle.commands.specs.declared.Decoded.{Decoded}
 use Rattle.commands.specs.declared.Decoded.the-variants.{Legal, Illegal}
-use Rattle.commands.specs.Formats.{Format, codeBits, csBits, numBits, scaleBits, ttlBits, tgBits, shapeOf, formats, codeIn, needsIn, commandIn, codes, howMany, namedAt}
+use Rattle.commands.specs.Formats.{Format, codeBits, csBits, leafBits, numBits, scaleBits, ttlBits, tgBits, dptPageBits, sizeBits, isSetIn, shapeOf, dpt, formats, codeIn, needsIn, commandIn, codes, howMany, namedAt}
 
 -- a command is one number of 128 bits
 abbrev pub codeOf : ℕ → ℕ
@@ -36,7 +36,7 @@ at column last (l ∷ ls) code = pick (eqb code (codeIn l)) (column l) (at colum
 
 -- the features that a code needs
 unfoldable pub featurePresent : Features → ℕ → Bool
-featurePresent f code = at (λ (l : Format). needsIn l f) true formats code
+featurePresent f code = at (λ (l : Format). needsIn l f) (dpt f) formats code
 
 -- each set bit is one that the code names
 unfoldable pub clean : Features → ℕ → ℕ → Bool
@@ -62,9 +62,10 @@ badRange code c =
 unfoldable pub parameterGood : ℕ → ℕ → Bool
 parameterGood code c = not (badCs code c || badRange code c)
 
--- a legal code's command; CMD_SYNC is the last
+-- a legal code's command; CMD_DPTI_PA is the last
 unfoldable pub commandOf : ℕ → ℕ → Command
-commandOf code c = at (λ (l : Format). commandIn l c) (Sync (get csBits c)) formats code
+commandOf code c =
+    at (λ (l : Format). commandIn l c) (DptiPa (get dptPageBits c) (get sizeBits c) (isSetIn leafBits c)) formats code
 
 -- Document 02, T-09: the four tests in their order, each with the reason that it gives where it fails
 abbrev pub reasons : Features → ℕ → List (Reason × Bool)
@@ -126,6 +127,8 @@ isCounted (TlbiS12Vmall vmid) = false
 isCounted (TlbiS2Ipa vmid target) = false
 isCounted TlbiNsnhAll = false
 isCounted (Sync cs) = eqb cs 1
+isCounted DptiAll = false
+isCounted (DptiPa page size leaf) = false
 
 -- how many of those a decoded command is
 abbrev pub syncsOf : Decoded → ℕ

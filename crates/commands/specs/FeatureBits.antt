@@ -13,5 +13,6 @@ featuresOf w =
       vmid16 = isSet 3 w;
       hyp = isSet 4 w;
       ril = isSet 5 w;
+      dpt = isSet 6 w;
       e2h = isSet 7 w;
     }

@@ -1,5 +1,5 @@
--- Document 01, Commands and their scopes, with document 02, T-05 and T-07: the codes, what each needs and names, and the command
--- that it is. Bits are numbered 127:0 over both words.
+-- Document 01, Commands and their scopes, with document 02, T-05, T-07 and T-11: the codes, what each needs and names, and the
+-- command that it is. Bits are numbered 127:0 over both words.
 -- Assumes nothing.
 use Prim.Native.Nat.{ℕ, _+_}
 use mathlib.Core.Path.{_≡_}
@@ -14,7 +14,7 @@ use Rattle.commands.specs.declared.Features.{Features}
 use Rattle.commands.specs.declared.Target.{Target}
 use Rattle.commands.specs.declared.Shape.{Shape}
 use Rattle.commands.specs.declared.Command.{Command}
-use Rattle.commands.specs.declared.Command.the-variants.{PrefetchConfig, PrefetchAddr, CfgiSte, CfgiSteRange, CfgiCd, CfgiCdAll, TlbiNhAll, TlbiNhAsid, TlbiNhVa, TlbiNhVaa, TlbiEl2All, TlbiEl2Asid, TlbiEl2Va, TlbiEl2Vaa, TlbiS12Vmall, TlbiS2Ipa, TlbiNsnhAll, Sync}
+use Rattle.commands.specs.declared.Command.the-variants.{PrefetchConfig, PrefetchAddr, CfgiSte, CfgiSteRange, CfgiCd, CfgiCdAll, TlbiNhAll, TlbiNhAsid, TlbiNhVa, TlbiNhVaa, TlbiEl2All, TlbiEl2Asid, TlbiEl2Va, TlbiEl2Vaa, TlbiS12Vmall, TlbiS2Ipa, TlbiNsnhAll, Sync, DptiAll, DptiPa}
 
 abbrev pub codeBits : Range
 codeBits = bits 7 0
@@ -63,6 +63,13 @@ ttlBits = bits 73 72
 abbrev pub tgBits : Range
 tgBits = bits 75 74
 
+-- document 02, T-11: Address[55:12] of a physical address, and SIZE
+abbrev pub dptPageBits : Range
+dptPageBits = bits 119 76
+
+abbrev pub sizeBits : Range
+sizeBits = bits 75 72
+
 -- without S2P the VMID is Reserved
 abbrev pub vmidWith : Features → List Range
 vmidWith f = pick (f .s2p) (vmidBits ∷ []) []
@@ -107,6 +114,10 @@ s2p f = f .s2p
 abbrev pub hyp : Features → Bool
 hyp f = f .hyp && f .s1p
 
+-- document 02, T-11
+abbrev pub dpt : Features → Bool
+dpt f = f .dpt
+
 -- A code; whether the features that it needs are there; the bits besides its own that it names under the features and by the
 -- shape, those not looked at among them; and the command, with its fields as they stand.
 pub data Format : Type 0 where
@@ -136,6 +147,9 @@ formats =
     ∷ code 0x30 always (λ f s. []) (λ c. TlbiNsnhAll)
     -- 46: 27:22, 63:32 and 127:64 are not looked at
     ∷ code 0x46 always (λ f s. csBits ∷ bits 27 22 ∷ bits 63 32 ∷ bits 127 64 ∷ []) (λ c. Sync (get csBits c))
+    -- document 02, T-11: any SIZE
+    ∷ code 0x70 dpt (λ f s. []) (λ c. DptiAll)
+    ∷ code 0x73 dpt (λ f s. leafBits ∷ sizeBits ∷ dptPageBits ∷ []) (λ c. DptiPa (get dptPageBits c) (get sizeBits c) (isSetIn leafBits c))
     ∷ []
 
 abbrev pub howMany : ℕ

@@ -21,7 +21,7 @@ mayBeSet f s i =
 
 -- the unit without RIL
 abbrev pub withoutRil : Features → Features
-withoutRil f = record { s1p = f .s1p; s2p = f .s2p; asid16 = f .asid16; vmid16 = f .vmid16; hyp = f .hyp; e2h = f .e2h; ril = false }
+withoutRil f = record { s1p = f .s1p; s2p = f .s2p; asid16 = f .asid16; vmid16 = f .vmid16; hyp = f .hyp; e2h = f .e2h; ril = false; dpt = f .dpt }
 
 abbrev pub noneSet : ℕ → ℕ → ℕ → ℕ → Bool
 noneSet ttl ttl128 num scale = eqb ttl 0 && eqb ttl128 0 && eqb num 0 && eqb scale 0
@@ -44,7 +44,7 @@ abbrev pub ranged : ℕ → ℕ → ℕ → ℕ → ℕ → ℕ × ℕ
 ranged tg ttl ttl128 num scale = (0x13 + num * 2 ^ 12 + scale * 2 ^ 20, ttl128 * 2 ^ 7 + ttl * 2 ^ 8 + tg * 2 ^ 10)
 
 abbrev pub withS1p : Bool → Features
-withS1p ril = record { s1p = true; s2p = false; asid16 = false; vmid16 = false; hyp = false; e2h = false; ril = ril }
+withS1p ril = record { s1p = true; s2p = false; asid16 = false; vmid16 = false; hyp = false; e2h = false; ril = ril; dpt = false }
 
 abbrev pub numberOf : Decoded → ℕ
 numberOf (Legal command) = 0

@@ -1,4 +1,4 @@
-// Document 01, Commands and their scopes, with document 02, T-05, T-07 and T-09: which commands are legal, and what they are.
+// Document 01, Commands and their scopes, with document 02, T-05, T-07, T-09 and T-11: which commands are legal, and what they are.
 use crate::Command;
 use crate::Decoded;
 use crate::Features;
@@ -39,6 +39,8 @@ fn place(code: u64) -> usize
         0x2A => 15,
         0x30 => 16,
         0x46 => 17,
+        0x70 => 18,
+        0x73 => 19,
         _ => CODES,
     }
 }
@@ -64,7 +66,9 @@ fn feature_present(f: Features, code: u64) -> bool
         0x28 => f.s2p,
         0x2A => f.s2p,
         0x30 => true,
-        _ => true,
+        0x46 => true,
+        0x70 => f.dpt,
+        _ => f.dpt,
     }
 }
 
@@ -160,7 +164,9 @@ fn command_of(code: u64, lo: u64, hi: u64) -> Command
         0x28 => Command::TlbiS12Vmall(vmid(lo, hi)),
         0x2A => Command::TlbiS2Ipa(vmid(lo, hi), target_of(lo, hi, field(lo, hi, 115, 76))),
         0x30 => Command::TlbiNsnhAll,
-        _ => Command::Sync(field(lo, hi, 13, 12)),
+        0x46 => Command::Sync(field(lo, hi, 13, 12)),
+        0x70 => Command::DptiAll,
+        _ => Command::DptiPa(field(lo, hi, 119, 76), field(lo, hi, 75, 72), leaf(lo, hi)),
     }
 }
 

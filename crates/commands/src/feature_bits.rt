@@ -13,6 +13,7 @@ pub fn features_of(bits: u64) -> Features
         vmid16: words::part(bits, 3, 3) == 1,
         hyp: words::part(bits, 4, 4) == 1,
         ril: words::part(bits, 5, 5) == 1,
+        dpt: words::part(bits, 6, 6) == 1,
         e2h: words::part(bits, 7, 7) == 1,
     }
 }

@@ -1,4 +1,4 @@
-// Document 01, Commands and their scopes, with document 02, T-05 and T-07: the bits that each code names.
+// Document 01, Commands and their scopes, with document 02, T-05, T-07 and T-11: the bits that each code names.
 use crate::Features;
 use crate::Shape;
 ghost use mathlib.Core.Path.{_≡_};
@@ -9,7 +9,7 @@ ghost use Rattle.commands.specs.Masks.{rangeMasks};
 ghost use Rattle.commands.specs.Decoding.{clean};
 
 // How many codes there are.
-pub const CODES: usize = 18;
+pub const CODES: usize = 20;
 
 // The bits that may be set in a command's low and high word, a pair for each code, with every feature and no range.
 const NAMED: [[u64; 2]; CODES] = [
@@ -49,6 +49,10 @@ const NAMED: [[u64; 2]; CODES] = [
     [0x0000_0000_0000_00ff, 0x0000_0000_0000_0000],
     // 46
     [0xffff_ffff_0fc0_30ff, 0xffff_ffff_ffff_ffff],
+    // 70
+    [0x0000_0000_0000_00ff, 0x0000_0000_0000_0000],
+    // 73
+    [0x0000_0000_0000_00ff, 0x00ff_ffff_ffff_ff01],
 ];
 
 // The places of 10 and 13, which name a VMID only with S2P.

@@ -19,6 +19,8 @@ pub struct Features {
     pub e2h: bool,
     // Document 02, T-07.
     pub ril: bool,
+    // Document 02, T-11.
+    pub dpt: bool,
 }
 
 // What a command by address aims at: Leaf, and the address without its low 12 bits.
@@ -73,6 +75,10 @@ pub enum Command {
     TlbiNsnhAll,
     // CS
     Sync(u64),
+    // Document 02, T-11: the device permission table's.
+    DptiAll,
+    // Address without its low 12 bits, SIZE, Leaf
+    DptiPa(u64, u64, bool),
 }
 
 // Document 02, T-09: why a command is illegal.

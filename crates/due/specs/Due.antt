@@ -41,6 +41,10 @@ pub data Due : Type 0 where
 abbrev pub scan : Features → Command → Memory → ℕ → ℕ → Found
 scan f command m n i = lowest (scopedAt f command m) n i
 
+-- and of all from row i on
+abbrev pub scanned : Features → Command → Memory → ℕ → Found
+scanned f command m i = scan f command m (rowsIn m - i) i
+
 -- the control word after a command is consumed, and the parts of it that this touches: RD goes forward, and a CMD_SYNC with
 -- CS 1 leaves its interrupt pending (document 02, T-08)
 unfoldable pub afterCommand : Decoded → ℕ → ℕ
@@ -87,7 +91,7 @@ storeOf d m Consumed = Stores Control (afterCommand d (controlOf m)) (Consume (s
 storeOf d m (DidRaise told) = Stores Control (control-stores.raised (controlOf m)) (Raise told)
 
 abbrev pub noneBelow : Features → Decoded → Memory → ℕ → Type 0
-noneBelow f (Legal command) m from = scan f command m (rowsIn m - from) from ≡ scan f command m (rowsIn m) 0
+noneBelow f (Legal command) m from = scanned f command m from ≡ scan f command m (rowsIn m) 0
 noneBelow f (Illegal why) m from = from ≡ 0
 
 pub record Ready (f : Features) (d : Decoded) (from : ℕ) (m : Memory) : Type 0 where

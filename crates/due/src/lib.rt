@@ -1,14 +1,16 @@
-// Document 01, One run: the step, which makes the one store that is due. Nothing else of a run writes to the kept memory.
+// Document 01, One run, with document 02, T-11: the step, which makes the one store that is due. Nothing else of a run writes to
+// lent memory.
 use commands::Command;
 use commands::Decoded;
 use commands::Features;
 use commands::Reason;
 use words::Found;
 ghost use mathlib.Core.Path.{_≡_};
-ghost use Prim.Native.Nat.{_+_, _*_, _-_, _≤_};
-ghost use lib.ListN.{length};
-ghost use Rattle.memory.specs.Memory.{rowsIn, scopedAt, Whole};
-ghost use Rattle.due.specs.Due.{scan, afterCommand, Ready, Made};
+ghost use Prim.Native.Nat.{_+_, _^_, _≤_, _<_};
+ghost use Rattle.words.specs.Choice.{pick};
+ghost use Rattle.region_scopes.specs.Scopes.{isRegional};
+ghost use Rattle.memory.specs.Memory.{both, rowsIn, scopedAt, Whole};
+ghost use Rattle.due.specs.Due.{scanned, afterCommand, Ready, Made};
 ghost use Rattle.commands.specs.declared.Decoded.the-variants.{Legal};
 
 // Document 02, T-09: what a raised error tells: why the command is illegal, and the slot that it is in.
@@ -24,25 +26,41 @@ pub enum Stepped {
     DidRaise(Raising),
 }
 
-fn scoped_at(kept: &[u64], f: Features, c: Command, i: usize) -> bool
-    requires { ⌜ 4 * i + 5 ≤ length (now kept) ⌝ }
-    ensures { λ r. ⌜ r ≡ scopedAt f c (now (kept .entry)) i ⌝ }
+// Row i is of the first table, or behind those of the second.
+fn scoped_at(kept: &[u64], table: &[u64], f: Features, c: Command, i: usize) -> bool
+    requires { ⌜ Whole (both (now kept) (now table)) × (i < rowsIn (both (now kept) (now table))) ⌝ }
+    ensures { λ r. ⌜ r ≡ scopedAt f c (both (now (kept .entry)) (now (table .entry))) i ⌝ }
 {
-    scopes::in_scope(f, c, image::row_at(kept, i))
+    let rows = kept.len() / 4;
+    if i < rows {
+        return scopes::in_scope(f, c, image::row_at(kept, i));
+    }
+    region_scopes::in_table(c, regions::row_at(table, i - rows))
+}
+
+// How many rows need be looked at: a command that is not about the second table does not pay for it.
+fn rows_for(c: Command, rows: usize, more: usize) -> usize
+    requires { ⌜ rows + more < 2 ^ 64 ⌝ }
+    ensures { λ r. ⌜ r ≡ pick (isRegional c) (rows + more) rows ⌝ }
+{
+    if region_scopes::is_regional(c) {
+        return rows + more;
+    }
+    rows
 }
 
 // The lowest row from `from` on that is in scope.
-fn find_from(kept: &[u64], f: Features, c: Command, from: usize) -> Found
-    requires { ⌜ Whole (now kept) × (from ≤ rowsIn (now kept)) ⌝ }
-    ensures { λ r. ⌜ r ≡ scan f c (now (kept .entry)) (rowsIn (now (kept .entry)) - from) from ⌝ }
+fn find_from(kept: &[u64], table: &[u64], f: Features, c: Command, from: usize) -> Found
+    requires { ⌜ Whole (both (now kept) (now table)) × (from ≤ rowsIn (both (now kept) (now table))) ⌝ }
+    ensures { λ r. ⌜ r ≡ scanned f c (both (now (kept .entry)) (now (table .entry))) from ⌝ }
 {
-    let rows = kept.len() / 4;
     if scopes::idle(f, c) {
         return Found::Nothing;
     }
+    let rows = rows_for(c, kept.len() / 4, table.len() / 2);
     let mut i = from;
     while i < rows {
-        if scoped_at(kept, f, c, i) {
+        if scoped_at(kept, table, f, c, i) {
             return Found::At(i);
         }
         i += 1;
@@ -63,14 +81,19 @@ fn after_command(c: Command, w: u64) -> u64
 
 // Makes the store that is due for the command d, of which no row below `from` is in scope. It is a part of a
 // run and no call of the unit, so it may ask something of its caller.
-pub fn step(kept: &mut [u64], f: Features, d: Decoded, from: usize) -> Stepped
-    requires { ⌜ Ready f d from (now kept) ⌝ }
-    ensures { λ r. ⌜ Made f d (now (kept .entry)) (now (kept .exit)) r ⌝ }
+pub fn step(kept: &mut [u64], table: &mut [u64], f: Features, d: Decoded, from: usize) -> Stepped
+    requires { ⌜ Ready f d from (both (now kept) (now table)) ⌝ }
+    ensures { λ r. ⌜ Made f d (both (now (kept .entry)) (now (table .entry))) (both (now (kept .exit)) (now (table .exit))) r ⌝ }
 {
     match d {
-        Decoded::Legal(c) => match find_from(&*kept, f, c, from) {
+        Decoded::Legal(c) => match find_from(&*kept, &*table, f, c, from) {
             Found::At(i) => {
-                kept[4 * i + 1] = 0;
+                let rows = kept.len() / 4;
+                if i < rows {
+                    kept[4 * i + 1] = 0;
+                    return Stepped::Removed(i);
+                }
+                table[2 * (i - rows)] = 0;
                 Stepped::Removed(i)
             }
             Found::Nothing => {

@@ -11,12 +11,12 @@ module _ {answer′ : List ℕ} {r : ℕ} {reply reply′ : Reply} where
   pub tells : Told reply answer′ r → reply ≡ reply′ → Told reply′ answer′ r
   tells t e = rw (← e) t
 
-  pub leaves : {m m′ : List ℕ} → Told reply answer′ r → reply ≡ reply′ → m′ ≡ m → Leaves (with reply′ m) m′ answer′ r
+  pub leaves : {M : Type 0} {m m′ : M} → Told reply answer′ r → reply ≡ reply′ → m′ ≡ m → Leaves (with reply′ m) m′ answer′ r
   leaves t e k = record { told = tells t e; kept = k }
 
 -- two outcomes that a contract allows are equal
 pub told-pinned : {reply : Reply} {a a′ : List ℕ} {r r′ : ℕ} → Told reply a r → Told reply a′ r′ → (r ≡ r′) × (a ≡ a′)
 told-pinned t t′ = (t .number ∙ sym (t′ .number), t .words ∙ sym (t′ .words))
 
-pub pinned : {o : Outcome (List ℕ) Reply} {m m′ a a′ : List ℕ} {r r′ : ℕ} → Leaves o m a r → Leaves o m′ a′ r′ → ((r ≡ r′) × (a ≡ a′)) × (m ≡ m′)
+pub pinned : {M : Type 0} {o : Outcome M Reply} {m m′ : M} {a a′ : List ℕ} {r r′ : ℕ} → Leaves o m a r → Leaves o m′ a′ r′ → ((r ≡ r′) × (a ≡ a′)) × (m ≡ m′)
 pinned l l′ = (told-pinned (l .told) (l′ .told), l .kept ∙ sym (l′ .kept))

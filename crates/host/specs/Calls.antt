@@ -6,9 +6,12 @@ use Prim.Native.Nat.{ℕ}
 use lib.Dec.{eqb}
 use Rattle.words.specs.Outcomes.{Outcome}
 use Rattle.rows.specs.declared.Row.{Row}
+use Rattle.regions.specs.declared.Region.{Region}
 use Rattle.commands.specs.FeatureBits.{featuresOf}
+use Rattle.memory.specs.Memory.{Memory}
 use Rattle.runs.specs.Call as runs
 use Rattle.fills.specs.Fills as fills
+use Rattle.region_fills.specs.Fills as region-fills
 use Rattle.control_calls.specs.Calls as control-calls
 use Rattle.event_calls.specs.Calls as event-calls
 use Rattle.transactions.specs.declared.Transaction.{Transaction}
@@ -17,13 +20,19 @@ use Rattle.image_state.specs.States as states
 use Rattle.interface.specs.declared.Reply.{Reply}
 use Rattle.interface.specs.Replies.{runReply, fillReply, doorbellReply, acknowledgeReply, clearReply, enableReply, translateReply, stateReply}
 use Rattle.interface.specs.Recorded.{eventWriteReply, eventReadReply, eventAcknowledgeReply}
+use Rattle.interface.specs.Tables.{tableFillReply}
 use Rattle.host.specs.Told.{telling}
 
-abbrev pub run : ℕ → ℕ → List ℕ → List ℕ → Outcome (List ℕ) Reply
+-- with document 02, T-11: the kept memory and the second table
+abbrev pub run : ℕ → ℕ → List ℕ → Memory → Outcome Memory Reply
 run features allowance queue m = telling runReply (runs.call (featuresOf features) queue allowance m)
 
 abbrev pub fill : ℕ → Row → ℕ → List ℕ → Outcome (List ℕ) Reply
 fill row words allowance m = telling fillReply (fills.fill m row words allowance)
+
+-- document 02, T-11: the kept memory m is only read, and the second table t is what is left
+abbrev pub tableFill : ℕ → Region → ℕ → List ℕ → List ℕ → Outcome (List ℕ) Reply
+tableFill row words allowance m t = telling tableFillReply (region-fills.fill m t row words allowance)
 
 abbrev pub doorbell : ℕ → List ℕ → Outcome (List ℕ) Reply
 doorbell wr m = telling doorbellReply (control-calls.doorbell m wr)

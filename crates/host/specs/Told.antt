@@ -15,7 +15,7 @@ pub record Told (reply : Reply) (answer′ : List ℕ) (r : ℕ) : Type 0 where
 abbrev pub telling : {M A : Type 0} → (A → Reply) → Outcome M A → Outcome M Reply
 telling reply o = with (reply (o .answer)) (o .memory)
 
--- what a call tells, and the kept memory that it leaves
-pub record Leaves (o : Outcome (List ℕ) Reply) (m′ answer′ : List ℕ) (r : ℕ) : Type 0 where
+-- what a call tells, and the memory that it leaves
+pub record Leaves {M : Type 0} (o : Outcome M Reply) (m′ : M) (answer′ : List ℕ) (r : ℕ) : Type 0 where
   pub told : Told (o .answer) answer′ r
   pub kept : m′ ≡ o .memory

@@ -2,10 +2,12 @@
 // number, and fills the eight words of the answer. include/tahvenno.h says what each word is.
 use attributes::Attributes;
 use interface::Reply;
+use regions::Region;
 use rows::Row;
 ghost use Rattle.interface.specs.Asked.{transactionOf};
+ghost use Rattle.memory.specs.Memory.{both};
 ghost use Rattle.host.specs.Told.{Told, Leaves};
-ghost use Rattle.host.specs.Calls.{run, fill, doorbell, acknowledge, clearPending, enable, eventWrite, eventRead, eventAcknowledge, translate, state};
+ghost use Rattle.host.specs.Calls.{run, fill, tableFill, doorbell, acknowledge, clearPending, enable, eventWrite, eventRead, eventAcknowledge, translate, state};
 
 // Puts a reply's words into the answer, and hands back its number.
 fn tell(answer: &mut [u64; 8], reply: Reply) -> u64
@@ -19,15 +21,16 @@ fn tell(answer: &mut [u64; 8], reply: Reply) -> u64
 #[no_mangle]
 pub extern "C" fn tahvenno_run(
     kept: &mut [u64],
+    table: &mut [u64],
     queue: &[u8],
     features: u64,
     allowance: u64,
     answer: &mut [u64; 8],
 ) -> u64
-    ensures { λ r. ⌜ Leaves (run features allowance (now (queue .entry)) (now (kept .entry))) (now (kept .exit)) (now (answer .exit)) r ⌝ }
+    ensures { λ r. ⌜ Leaves (run features allowance (now (queue .entry)) (both (now (kept .entry)) (now (table .entry)))) (both (now (kept .exit)) (now (table .exit))) (now (answer .exit)) r ⌝ }
 {
     let f = commands::features_of(features);
-    let a = runs::run(&mut *kept, queue, f, allowance);
+    let a = runs::run(&mut *kept, &mut *table, queue, f, allowance);
     tell(&mut *answer, interface::run_reply(a))
 }
 
@@ -46,6 +49,29 @@ pub extern "C" fn tahvenno_fill(
 {
     let a = fills::fill(&mut *kept, row as usize, Row { w0, w1, w2, w3 }, allowance);
     tell(&mut *answer, interface::fill_reply(a))
+}
+
+// The second table is lent beside the kept memory, which is only read.
+#[no_mangle]
+pub extern "C" fn tahvenno_table_fill(
+    kept: &[u64],
+    table: &mut [u64],
+    row: u64,
+    w0: u64,
+    w1: u64,
+    allowance: u64,
+    answer: &mut [u64; 8],
+) -> u64
+    ensures { λ r. ⌜ Leaves (tableFill row (record { w0 = w0; w1 = w1 }) allowance (now (kept .entry)) (now (table .entry))) (now (table .exit)) (now (answer .exit)) r ⌝ }
+{
+    let a = region_fills::fill(
+        kept,
+        &mut *table,
+        row as usize,
+        Region { w0, w1 },
+        allowance,
+    );
+    tell(&mut *answer, interface::table_fill_reply(a))
 }
 
 #[no_mangle]

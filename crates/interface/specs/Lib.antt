@@ -1,3 +1,4 @@
 pub mod Asked
 pub mod Replies
 pub mod Recorded
+pub mod Tables

@@ -7,11 +7,14 @@ use Rattle.words.specs.Choice.{pick}
 use Rattle.image.specs.declared.Refusal.{Refusal}
 use Rattle.image.specs.declared.Refusal.the-variants.{BadLength, BadControl, BadRow}
 use Rattle.image.specs.Image as image
+use Rattle.regions.specs.declared.Refusal.{Refusal as Table·Refusal}
+use Rattle.regions.specs.declared.Refusal.the-variants.{BadLength as Table·BadLength, BadRow as Table·BadRow}
+use Rattle.regions.specs.Table as table
 use Rattle.commands.specs.Decoding.{reasonNumber}
 use Rattle.runs.specs.declared.End.{End}
 use Rattle.runs.specs.declared.End.the-variants.{Off, Held, Empty, Raised, Cut as Run·Cut}
 use Rattle.runs.specs.declared.RunRefusal.{RunRefusal}
-use Rattle.runs.specs.declared.RunRefusal.the-variants.{Image as Run·Image, BadQueue}
+use Rattle.runs.specs.declared.RunRefusal.the-variants.{Image as Run·Image, Table as Run·Table, BadQueue}
 use Rattle.runs.specs.declared.RunAnswer.{RunAnswer}
 use Rattle.runs.specs.declared.RunAnswer.the-variants.{Refused as NotRun, Done as DidRun}
 use Rattle.runs.specs.Running as running
@@ -64,6 +67,14 @@ rowOf (BadRow i) = i
 abbrev pub imageReply : Refusal → Reply
 imageReply why = record { code = image.number why; words = rowOf why ∷ 0 ∷ 0 ∷ 0 ∷ 0 ∷ 0 ∷ 0 ∷ 0 ∷ [] }
 
+-- Document 02, T-11: refusal 14 names a row of the second table
+abbrev pub tableRowOf : Table·Refusal → ℕ
+tableRowOf Table·BadLength = 0
+tableRowOf (Table·BadRow i) = i
+
+abbrev pub tableReply : Table·Refusal → Reply
+tableReply why = record { code = table.number why; words = tableRowOf why ∷ 0 ∷ 0 ∷ 0 ∷ 0 ∷ 0 ∷ 0 ∷ 0 ∷ [] }
+
 -- Document 02, T-09: what a raised error tells, and 0 where none was raised
 abbrev pub reasonIn : End → ℕ
 reasonIn Off = 0
@@ -82,6 +93,7 @@ slotIn Run·Cut = 0
 -- a run: its end, the four counts, and what a raised error tells
 abbrev pub runRefusal : RunRefusal → Reply
 runRefusal (Run·Image why) = imageReply why
+runRefusal (Run·Table why) = tableReply why
 runRefusal BadQueue = nothing (runs.number BadQueue)
 
 abbrev pub runReply : RunAnswer → Reply

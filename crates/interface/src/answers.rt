@@ -24,7 +24,7 @@ ghost use mathlib.Core.Path.{_≡_};
 ghost use Rattle.commands.specs.Decoding.{reasonNumber};
 ghost use Rattle.runs.specs.Running as running;
 ghost use Rattle.fills.specs.Fills as fills;
-ghost use Rattle.interface.specs.Replies.{bitOf, nothing, imageReply, reasonIn, slotIn, runRefusal, runReply, fillRefusal, fillReply, doorbellRefusal, doorbellReply, acknowledgeRefusal, acknowledgeReply, clearRefusal, clearReply, enableReply, missNumber, outcomeReply, transactionRefusal, translateReply, stateReply};
+ghost use Rattle.interface.specs.Replies.{bitOf, nothing, imageReply, tableReply, reasonIn, slotIn, runRefusal, runReply, fillRefusal, fillReply, doorbellRefusal, doorbellReply, acknowledgeRefusal, acknowledgeReply, clearRefusal, clearReply, enableReply, missNumber, outcomeReply, transactionRefusal, translateReply, stateReply};
 
 fn bit_of(on: bool) -> u64
     ensures { λ r. ⌜ r ≡ bitOf on ⌝ }
@@ -45,7 +45,7 @@ pub fn nothing(code: u64) -> Reply
     }
 }
 
-fn image_reply(why: Refusal) -> Reply
+pub fn image_reply(why: Refusal) -> Reply
     ensures { λ r. ⌜ r ≡ imageReply why ⌝ }
 {
     match why {
@@ -53,6 +53,19 @@ fn image_reply(why: Refusal) -> Reply
         Refusal::BadControl => nothing(2),
         Refusal::BadRow(i) => Reply {
             code: 3,
+            words: [i as u64, 0, 0, 0, 0, 0, 0, 0],
+        },
+    }
+}
+
+// Document 02, T-11: why the second table is refused.
+pub fn table_reply(why: regions::Refusal) -> Reply
+    ensures { λ r. ⌜ r ≡ tableReply why ⌝ }
+{
+    match why {
+        regions::Refusal::BadLength => nothing(13),
+        regions::Refusal::BadRow(i) => Reply {
+            code: 14,
             words: [i as u64, 0, 0, 0, 0, 0, 0, 0],
         },
     }
@@ -115,6 +128,7 @@ fn run_refusal(why: RunRefusal) -> Reply
 {
     match why {
         RunRefusal::Image(r) => image_reply(r),
+        RunRefusal::Table(r) => table_reply(r),
         RunRefusal::BadQueue => nothing(4),
     }
 }
@@ -143,7 +157,7 @@ pub fn run_reply(a: RunAnswer) -> Reply
     }
 }
 
-fn fill_end_number(e: FillEnd) -> u64
+pub fn fill_end_number(e: FillEnd) -> u64
     ensures { λ r. ⌜ r ≡ fills.endNumber e ⌝ }
 {
     match e {

@@ -2,6 +2,7 @@
 mod answers;
 mod asked;
 mod recorded;
+mod tables;
 
 pub use answers::acknowledge_reply;
 pub use answers::clear_reply;
@@ -15,6 +16,7 @@ pub use asked::transaction_of;
 pub use recorded::event_acknowledge_reply;
 pub use recorded::event_read_reply;
 pub use recorded::event_write_reply;
+pub use tables::table_fill_reply;
 
 // The number that a call returns, 0 or its refusal's, and the eight words of its answer.
 pub struct Reply {

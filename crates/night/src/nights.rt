@@ -10,7 +10,15 @@ const ENOUGH: u64 = 8;
 fn run(kept: &mut [u64; 9], allowance: u64) {
     let mut answer = [0u64; 8];
     let queue = scene::queue();
-    let code = host::tahvenno_run(&mut *kept, &queue, scene::FEATURES, allowance, &mut answer);
+    let mut table = [0u64; 2];
+    let code = host::tahvenno_run(
+        &mut *kept,
+        &mut table,
+        &queue,
+        scene::FEATURES,
+        allowance,
+        &mut answer,
+    );
     if code == 0 {
         told(
             b"ended {Off|Held|Empty|Raised|Cut}: commands consumed #, stores #, rows removed #, syncs #\n",

@@ -15,10 +15,6 @@ use Rattle.control_stores.specs.Stores as control-stores
 use Rattle.control_stores.proofs.AfterStores.{raised-keeps}
 use Rattle.commands.specs.declared.Features.{Features}
 use Rattle.commands.specs.declared.Decoded.the-variants.{Legal}
-use Rattle.image.specs.declared.Checked.{Checked}
-use Rattle.image.specs.declared.Checked.the-variants.{Accepted, Refused as NotAccepted}
-use Rattle.image.specs.Image.{check}
-use Rattle.image.proofs.Checks.{accepts, says}
 use Rattle.memory.specs.Memory.{Memory, controlOf}
 use Rattle.memory.proofs.Laws.{Accepts, accepted-whole, control-stored, control-cleared}
 use Rattle.due.specs.Due.{What, afterCommand}
@@ -30,6 +26,7 @@ use Rattle.runs.specs.declared.RunAnswer.the-variants.{Refused, Done}
 use Rattle.runs.specs.declared.End.the-variants.{Cut}
 use Rattle.runs.specs.Running.{Out, stores, dueIn, run}
 use Rattle.runs.specs.Call.{queueGood, refused, done, call}
+use Rattle.runs.proofs.Calling.{goes-through, Answered, no, yes, answered}
 use Rattle.promises.specs.Cuts.{again, AllCut, none as all-none, one as all-one}
 use Rattle.promises.specs.Calls.{_and_, calls, EndsCut, CallsCut, none, one, CarriedOut}
 use Rattle.promises.proofs.Cases.{Case, removes, consumes, raises, is-due}
@@ -71,20 +68,18 @@ module _ (f : Features) (queue : List ℕ) where
     carried : (n : ℕ) → Accepts m n → queueGood queue m ≡ true → Goes m
 
   carries : (n k : ℕ) (m : Memory) → Accepts m n → queueGood queue m ≡ true → call f queue k m ≡ done (run f queue k m)
-  unfolding call
-  carries n k m a q = rw (accepts m n a, q)
+  carries n k m a q = goes-through f queue k m n a ∙ rw q
 
   which-way : (m : Memory) → Goes m
-  unfolding call
-  which-way m = by-check (check m) refl
+  which-way m = by-answer (answered f queue m)
     where
-      by-queue : (n : ℕ) → check m ≡ Accepted n → (b : Bool) → queueGood queue m ≡ b → Goes m
-      by-queue n e true q = carried n (says m .accepted n e) q
-      by-queue n e false q = stops BadQueue (λ k. rw (e, q))
+      by-queue : (n : ℕ) → Accepts m n → (b : Bool) → queueGood queue m ≡ b → Goes m
+      by-queue n a true q = carried n a q
+      by-queue n a false q = stops BadQueue (λ k. goes-through f queue k m n a ∙ rw q)
 
-      by-check : (c : Checked) → check m ≡ c → Goes m
-      by-check (NotAccepted why) e = stops (Image why) (λ k. rw e)
-      by-check (Accepted n) e = by-queue n e (queueGood queue m) refl
+      by-answer : Answered f queue m → Goes m
+      by-answer (no why e) = stops why e
+      by-answer (yes n a) = by-queue n a (queueGood queue m) refl
 
   module _ (n : ℕ) where
     -- calls one after the other are runs one after the other

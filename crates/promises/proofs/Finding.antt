@@ -102,7 +102,6 @@ module _ (f : Features) (queue : List ℕ) (n : ℕ) where
   unfolding advanced
   after-remove m m₂ k e c i a legal low reached later =
       let word = memory.control-cleared m i in
-      let below : i < n = rw (memory.rows-are m n a) at (low .below) in
       let empty = memory.word-cleared m (memory.accepted-whole m n a) i (low .below) in
       let here : WasInScope f queue m k e i = record { which = 0; command = c; reached = reached; is-command = legal; in-scope = low .passes } in
       record {
@@ -110,7 +109,7 @@ module _ (f : Features) (queue : List ℕ) (n : ℕ) where
         gone = λ t h. from-cleared word t (later .gone t h);
         illegal = λ r. ap (λ (w : ℕ). isIllegal (commandAt f queue w k)) (sym word) ∙ later .illegal r;
         early = λ j h. each here word empty j h (ℕ-discrete j i) (later .early j h);
-        others = memory.untouched-cleared n m m₂ i below (later .others);
+        others = memory.untouched-cleared n m m₂ i (rw (memory.rows-are m n a) at (low .below)) (later .others);
       }
     where
       from-cleared : controlOf (cleared m i) ≡ controlOf m → (t : ℕ) → Consumed f queue n (cleared m i) m₂ t → Consumed f queue n m m₂ t

@@ -36,7 +36,17 @@ use Rattle.control_calls.specs.Calls as control-calls
 use Rattle.transactions.specs.declared.Transaction.{Transaction}
 use Rattle.transactions.specs.Call as transactions
 use Rattle.due.specs.declared.Raising.{Raising}
-use Rattle.promises.specs.Numbers.{runNumber, fillNumber, doorbellNumber, acknowledgeNumber, clearNumber, enableNumber, translateNumber, Rule, first, some, ofImage, ofRun, ofDoorbell, ofAcknowledge, ofClear, ofFill, ofTransaction, runEnds, fillEnds}
+use Rattle.memory.specs.Memory.{Memory}
+use Rattle.regions.specs.declared.Region.{Region}
+use Rattle.regions.specs.declared.Refusal.{Refusal as regions·Refusal}
+use Rattle.regions.specs.declared.Refusal.the-variants.{BadLength as regions·BadLength, BadRow as regions·BadRow}
+use Rattle.regions.specs.declared.Checked.{Checked as regions·Checked}
+use Rattle.regions.specs.declared.Checked.the-variants.{Accepted as regions·Accepted}
+use Rattle.regions.specs.Table as regions
+use Rattle.regions.proofs.Checks.{by-rows as regions·by-rows, says as regions·says, rows-are as regions·rows-are}
+use Rattle.region_fills.specs.declared.FillAnswer.{FillAnswer as region·FillAnswer}
+use Rattle.region_fills.specs.Fills as region-fills
+use Rattle.promises.specs.Numbers.{runNumber, fillNumber, tableFillNumber, doorbellNumber, acknowledgeNumber, clearNumber, enableNumber, translateNumber, Rule, first, some, ofImage, ofTable, ofRun, ofDoorbell, ofAcknowledge, ofClear, ofFill, ofTableFill, ofTransaction, runEnds, fillEnds}
 
 -- 1, 2 and 3, and then the numbers of the call's own
 module _ {A : Type 0} (m : List ℕ) (number : A → ℕ) (refuses : Refusal → A) (goes-on : ℕ → A) (rules : List Rule)
@@ -63,17 +73,53 @@ module _ {A : Type 0} (m : List ℕ) (number : A → ℕ) (refuses : Refusal →
   image-first : told (image.check m) ≡ first (ofImage m ++ rules)
   image-first = by-length (image.lengthGood m) refl
 
+-- 13 and 14, and then the numbers of the call's own
+module _ {A : Type 0} (t : List ℕ) (number : A → ℕ) (refuses : regions·Refusal → A) (goes-on : ℕ → A) (rules : List Rule)
+    (says-why : (why : regions·Refusal) → number (refuses why) ≡ regions.number why)
+    (says-rest : (n : ℕ) → regions.check t ≡ regions·Accepted n → number (goes-on n) ≡ first rules) where
+  abbrev second : regions·Checked → ℕ
+  second c = number (regions.checked c refuses goes-on)
+
+  found-bad : (x : Found) → lowest (regions.isBad t) (regions.rowsIn t) 0 ≡ x → regions.lengthGood t ≡ true → second (regions.check t) ≡ first (ofTable t ++ rules)
+  found-bad (At i) e good = rw (regions·by-rows t good, e, good) (says-why (regions·BadRow i))
+  found-bad Nothing e good =
+      let accepted : regions.check t ≡ regions·Accepted (regions.rowsIn t) = regions·by-rows t good ∙ rw e in
+      rw (accepted, e, good) (says-rest (regions.rowsIn t) accepted)
+
+  long-or-not : (b : Bool) → regions.lengthGood t ≡ b → second (regions.check t) ≡ first (ofTable t ++ rules)
+  unfolding regions.check
+  long-or-not true good = found-bad (lowest (regions.isBad t) (regions.rowsIn t) 0) refl good
+  long-or-not false good = rw good (says-why regions·BadLength)
+
+  table-first : second (regions.check t) ≡ first (ofTable t ++ rules)
+  table-first = long-or-not (regions.lengthGood t) refl
+
 -- a number of an outcome's answer
 abbrev pub ofAnswer : {M A : Type 0} → (A → ℕ) → Outcome M A → ℕ
 ofAnswer number o = number (o .answer)
 
-module _ (m : List ℕ) where
-  pub run-number : (f : Features) (queue : List ℕ) (k : ℕ) → runNumber (runs.call f queue k m .answer) ≡ first (ofImage m ++ ofRun queue m)
-  unfolding runs.call
-  run-number f queue k =
-      image-first m (ofAnswer runNumber) _ _ (ofRun queue m) (λ why. refl)
-      (λ n e. through (ofAnswer runNumber) (not (runs.queueGood queue m)) _ _)
+pub run-number : (f : Features) (queue : List ℕ) (k : ℕ) (m : Memory)
+    → runNumber (runs.call f queue k m .answer) ≡ first (ofImage (m .kept) ++ ofTable (m .table) ++ ofRun queue m)
+unfolding runs.call
+run-number f queue k m =
+    image-first (m .kept) (ofAnswer runNumber) _ _ (ofTable (m .table) ++ ofRun queue m) (λ why. refl)
+    (λ n e. table-first (m .table) (ofAnswer runNumber) _ _ (ofRun queue m) (λ why. refl)
+    (λ r g. through (ofAnswer runNumber) (not (runs.queueGood queue m)) _ _))
 
+pub table-fill-number : (m t : List ℕ) (row : ℕ) (words : Region) (k : ℕ)
+    → tableFillNumber (region-fills.fill m t row words k .answer) ≡ first (ofImage m ++ ofTable t ++ ofTableFill t row words)
+unfolding region-fills.fill region-fills.fillRow
+table-fill-number m t row words k =
+    let number : Outcome (List ℕ) region·FillAnswer → ℕ = ofAnswer tableFillNumber in
+    image-first m number _ _ (ofTable t ++ ofTableFill t row words) (λ why. refl)
+    (λ n e. table-first t number _ _ (ofTableFill t row words) (λ why. refl)
+    (λ r g. rw (regions·rows-are t r (regions·says t .accepted r g .size))
+    (through number (leb r row) _ _
+    ∙ ap (pick (leb r row) 7)
+    (through number (regions.isUsed t row) _ _
+    ∙ ap (pick (regions.isUsed t row) 8) (through number (not (region-fills.fit words)) _ _)))))
+
+module _ (m : List ℕ) where
   pub doorbell-number : (wr : ℕ) → doorbellNumber (control-calls.doorbell m wr .answer) ≡ first (ofImage m ++ ofDoorbell m wr)
   unfolding control-calls.doorbell
   doorbell-number wr =

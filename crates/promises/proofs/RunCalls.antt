@@ -6,6 +6,7 @@ use mathlib.Core.List.{List}
 use Prim.Native.Nat.{ℕ, zero, suc, _<_}
 use native.Mathlib.Omega.{arith}
 use Rattle.words.specs.Choice.{pick}
+use Rattle.words.specs.Outcomes.{Outcome}
 use Rattle.control.specs.Control as control
 use Rattle.control.specs.declared.Rest.{Rest}
 use Rattle.control.proofs.Openness.{open-enabled, open-quiet}
@@ -14,18 +15,16 @@ use Rattle.control_stores.proofs.AfterStores.{raised-keeps, raised-active, rais
 use Rattle.commands.specs.declared.Features.{Features}
 use Rattle.commands.specs.declared.Decoded.the-variants.{Illegal}
 use Rattle.commands.specs.Decoding.{decodeAt, isIllegal}
-use Rattle.image.specs.declared.Checked.{Checked}
-use Rattle.image.specs.declared.Checked.the-variants.{Accepted, Refused as NotAccepted}
-use Rattle.image.specs.Image.{check}
-use Rattle.image.proofs.Checks.{accepts}
 use Rattle.memory.specs.Memory.{Memory, controlOf}
 use Rattle.memory.proofs.Laws.{Accepts, accepted-whole, control-stored}
 use Rattle.due.specs.declared.Raising.{Raising}
 use Rattle.due.specs.Due.{What, Remove, Consume, Raise, raisingAt}
 use Rattle.runs.specs.declared.End.the-variants.{Held, Raised}
 use Rattle.runs.specs.declared.RunRefusal.the-variants.{BadQueue}
+use Rattle.runs.specs.declared.RunAnswer.{RunAnswer}
 use Rattle.runs.specs.Running.{Out, Next, rests, stores, rested, last, next, runBy, dueIn, run, endOf}
 use Rattle.runs.specs.Call.{queueGood, refused, done, call}
+use Rattle.runs.proofs.Calling.{goes-through, Answered, no, yes, answered}
 use Rattle.promises.specs.Tells.{Tells}
 use Rattle.promises.specs.Ends.{IsRaised}
 use Rattle.promises.proofs.Accepted.{run-accepted, store-accepted}
@@ -33,11 +32,13 @@ use Rattle.promises.proofs.Cases.{Case, removes, consumes, raises, is-d
 use Rattle.promises.proofs.Resume.{rest-unraised}
 use Rattle.promises.proofs.IllegalCommands.{raised-slot, error-holds}
 
--- an unaccepted image is left as it is
-pub refused-leaves : (f : Features) (queue : List ℕ) (k : ℕ) (m : Memory) (c : Checked) → check m ≡ c → ((n : ℕ) → c ≡ Accepted n → ⊥) → call f queue k m .memory ≡ m
-unfolding call
-refused-leaves f queue k m (NotAccepted why) e never = rw e
-refused-leaves f queue k m (Accepted n) e never = absurd (never n refl)
+-- memory that is not accepted is left as it is
+pub refused-leaves : (f : Features) (queue : List ℕ) (k : ℕ) (m : Memory) → ((n : ℕ) → Accepts m n → ⊥) → call f queue k m .memory ≡ m
+refused-leaves f queue k m never = by-answer (answered f queue m)
+  where
+    by-answer : Answered f queue m → call f queue k m .memory ≡ m
+    by-answer (no why e) = ap (λ (o : Outcome Memory RunAnswer). o .memory) (e k)
+    by-answer (yes n a) = absurd (never n a)
 
 module _ (f : Features) (queue : List ℕ) (n : ℕ) where
   by-queue : (k : ℕ) (m : Memory) (b : Bool) → queueGood queue m ≡ b → Accepts m n → Accepts (pick (not b) (refused BadQueue m) (done (run f queue k m)) .memory) n
@@ -46,12 +47,10 @@ module _ (f : Features) (queue : List ℕ) (n : ℕ) where
 
   -- from accepted memory the call leaves accepted memory, at every allowance, refused or not
   pub call-accepted : (k : ℕ) (m : Memory) → Accepts m n → Accepts (call f queue k m .memory) n
-  unfolding call
-  call-accepted k m a = rw (accepts m n a) (by-queue k m (queueGood queue m) refl a)
+  call-accepted k m a = rw (goes-through f queue k m n a) (by-queue k m (queueGood queue m) refl a)
 
   pub bad-queue-leaves : (k : ℕ) (m : Memory) → Accepts m n → queueGood queue m ≡ false → call f queue k m .memory ≡ m
-  unfolding call
-  bad-queue-leaves k m a e = rw (accepts m n a, e)
+  bad-queue-leaves k m a e = rw (goes-through f queue k m n a, e)
 
 -- a run that ended Raised: its last store was the error's
 module _ {M : Type 0} (f : M → Next M) (P : M → Type 0) (keep : (m m′ : M) (w : What) → P m → f m ≡ stores w m′ → P m′) where

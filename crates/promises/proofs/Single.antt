@@ -4,10 +4,10 @@ use mathlib.Core.Path.{_≡_, refl, sym, ap, _∙_}
 use mathlib.Core.Bool.{Bool, true, false, not}
 use mathlib.Core.List.{List}
 use mathlib.Core.Logic.{_⊎_, inl, inr, ⊎-elim}
-use Prim.Native.Nat.{ℕ, _+_, _*_, _≤_, _<_}
+use Prim.Native.Nat.{ℕ, _+_, _*_, _/_, _≤_, _<_}
 use native.Mathlib.Decide.{ℕ-discrete}
 use native.Mathlib.Omega.{arith}
-use lib.ListN.{set}
+use lib.ListN.{set, length-set}
 use Rattle.words.specs.Choice.{pick}
 use Rattle.words.specs.Outcomes.{Outcome}
 use Rattle.words.proofs.Truth.{never, clash, less-or-not}
@@ -18,12 +18,15 @@ use Rattle.commands.specs.declared.Features.{Features}
 use Rattle.image.specs.Image.{rowAt}
 use Rattle.image.proofs.Checks.{Accepts, accepts}
 use Rattle.image.proofs.AfterStores.{row-kept, emptied, cleared-row, cleared-other, emptied-empty}
+use Rattle.memory.specs.Memory.{Memory, keptRows, isKept, behind, inKept, inSecond}
+use Rattle.memory.proofs.Laws as memory
 use Rattle.doubles.specs.Doubles.{collides}
 use Rattle.doubles.proofs.Laws.{first-not-last, second-not-last, turned, alone}
 use Rattle.due.specs.Due.{What}
 use Rattle.runs.specs.declared.RunRefusal.the-variants.{BadQueue}
 use Rattle.runs.specs.Running.{dueIn, run}
 use Rattle.runs.specs.Call.{queueGood, refused, done, call}
+use Rattle.runs.proofs.Calling.{goes-through}
 use Rattle.fills.specs.declared.FillAnswer.{FillAnswer}
 use Rattle.fills.specs.Fills.{fill}
 use Rattle.fills.proofs.Laws as fills
@@ -42,36 +45,45 @@ fewer-single m m′ n kept s i j h l d = by-rows (kept i h) (kept j l)
     by-rows (inl e) (inl f) = rw (e, f) (s i j h l d)
 
 -- a run only takes rows away
-module _ (f : Features) (queue : List ℕ) (n : ℕ) where
-  abbrev Kept : List ℕ → Type 0
-  Kept m = Accepts m n × Single m n
+module _ (f : Features) (queue : List ℕ) (n r : ℕ) where
+  abbrev Kept : Memory → Type 0
+  Kept m = memory.Accepts m n × (keptRows m ≡ r) × Single (m .kept) r
 
-  store-single : (m m′ : List ℕ) (w : What) → Accepts m n → IsDue f queue m w m′ → Case f queue m w m′ → Single m n → Single m′ n
-  store-single m m′ w a d (removes c i legal low what stored) s =
-      rw stored (fewer-single m _ n (λ j h. by-place j h (ℕ-discrete j i)) s)
+  store-single : (m m′ : Memory) (w : What) → Kept m → IsDue f queue m w m′ → Case f queue m w m′ → (keptRows m′ ≡ r) × Single (m′ .kept) r
+  store-single m m′ w p d (removes c i legal low what stored) = rw stored (by-table (isKept m i) refl)
     where
-      by-place : (j : ℕ) → j < n → Dec (j ≡ i) → (rowAt (set m (4 * i + 1) 0) j ≡ rowAt m j) ⊎ (isLast (rowAt (set m (4 * i + 1) 0) j) ≡ false)
-      by-place j h (yes e) =
-          inr (rw e (ap isLast (cleared-row m i (omega (arith, e, h, a .size .words))) ∙ empty-not-last (emptied (rowAt m i)) (emptied-empty (rowAt m i))))
-      by-place j h (no e) = inl (cleared-other m i j e)
-  store-single m m′ w a d (consumes c legal nothing what stored) s =
-      rw stored (fewer-single m _ n (λ j h. inl (row-kept m 0 _ j (λ r. omega (arith, r .from)))) s)
-  store-single m m′ w a d (raises why illegal what stored) s =
-      rw stored (fewer-single m _ n (λ j h. inl (row-kept m 0 _ j (λ r. omega (arith, r .from)))) s)
+      s : Single (m .kept) r
+      s = p .2
+
+      by-table : (b : Bool) → isKept m i ≡ b
+          → (keptRows (pick b (inKept m (4 * i + 1) 0) (inSecond m (2 * behind m i) 0)) ≡ r) × Single (pick b (inKept m (4 * i + 1) 0) (inSecond m (2 * behind m i) 0) .kept) r
+      by-table true e =
+          (ap (λ (k : ℕ). k / 4) (length-set (m .kept) (4 * i + 1) 0) ∙ p .1, fewer-single (m .kept) _ r (λ j h. by-place j h (ℕ-discrete j i)) s)
+        where
+          by-place : (j : ℕ) → j < r → Dec (j ≡ i) → (rowAt (set (m .kept) (4 * i + 1) 0) j ≡ rowAt (m .kept) j) ⊎ (isLast (rowAt (set (m .kept) (4 * i + 1) 0) j) ≡ false)
+          by-place j h (yes q) =
+              inr (rw q (ap isLast (cleared-row (m .kept) i (omega (arith, memory.kept-below m i e, memory.accepted-whole m n (p .0)))) ∙ empty-not-last (emptied (rowAt (m .kept) i)) (emptied-empty (rowAt (m .kept) i))))
+          by-place j h (no q) = inl (cleared-other (m .kept) i j q)
+      by-table false e = (p .1, s)
+  store-single m m′ w p d (consumes c legal nothing what stored) =
+      rw stored (memory.same-kept-rows (memory.size-stored m _) ∙ p .1, fewer-single (m .kept) _ r (λ j h. inl (row-kept (m .kept) 0 _ j (λ q. omega (arith, q .from)))) (p .2))
+  store-single m m′ w p d (raises why illegal what stored) =
+      rw stored (memory.same-kept-rows (memory.size-stored m _) ∙ p .1, fewer-single (m .kept) _ r (λ j h. inl (row-kept (m .kept) 0 _ j (λ q. omega (arith, q .from)))) (p .2))
 
   -- at every allowance
-  pub run-single : (k : ℕ) (m : List ℕ) → Accepts m n → Single m n → Single (run f queue k m .memory) n
-  run-single k m a s =
+  pub run-single : (k : ℕ) (m : Memory) → memory.Accepts m n → keptRows m ≡ r → Single (m .kept) r → Single (run f queue k m .memory .kept) r
+  run-single k m a rows s =
       run-keeps (dueIn f queue) Kept
-      (λ x y w p e. let d = is-due f queue x w y e in (store-accepted f queue n x y w (p .0) e, store-single x y w (p .0) d (d .kind) (p .1))) k m (a, s) .1
+      (λ x y w p e. let d = is-due f queue x w y e in
+      let q = store-single x y w p d (d .kind) in
+      (store-accepted f queue n x y w (p .0) e, q .0, q .1)) k m (a, rows, s) .2
 
-  by-queue : (k : ℕ) (m : List ℕ) (b : Bool) → Accepts m n → Single m n → Single (pick (not b) (refused BadQueue m) (done (run f queue k m)) .memory) n
-  by-queue k m true a s = run-single k m a s
-  by-queue k m false a s = s
+  by-queue : (k : ℕ) (m : Memory) (b : Bool) → memory.Accepts m n → keptRows m ≡ r → Single (m .kept) r → Single (pick (not b) (refused BadQueue m) (done (run f queue k m)) .memory .kept) r
+  by-queue k m true a rows s = run-single k m a rows s
+  by-queue k m false a rows s = s
 
-  pub call-single : (k : ℕ) (m : List ℕ) → Accepts m n → Single m n → Single (call f queue k m .memory) n
-  unfolding call
-  call-single k m a s = rw (accepts m n a) (by-queue k m (queueGood queue m) a s)
+  pub call-single : (k : ℕ) (m : Memory) → memory.Accepts m n → keptRows m ≡ r → Single (m .kept) r → Single (call f queue k m .memory .kept) r
+  call-single k m a rows s = rw (goes-through f queue k m n a) (by-queue k m (queueGood queue m) a rows s)
 
 -- a fill puts in only what collides with none, at every allowance
 pub fill-single : (m : List ℕ) (n row : ℕ) (words : Row) (k : ℕ) → Accepts m n → Single m n → Single (fill m row words k .memory) n

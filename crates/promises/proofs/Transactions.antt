@@ -14,12 +14,13 @@ use Rattle.rows.proofs.LastLevel.{empty-silent}
 use Rattle.commands.specs.declared.Features.{Features}
 use Rattle.commands.specs.declared.Command.{Command}
 use Rattle.commands.specs.declared.Decoded.the-variants.{Legal}
-use Rattle.image.specs.Image.{controlOf, rowAt, rowsIn}
-use Rattle.image.proofs.Checks.{Accepts, accepts, rows-are}
+use Rattle.image.specs.Image.{rowAt}
+use Rattle.image.proofs.Checks.{accepts}
 use Rattle.fills.specs.declared.FillAnswer.{FillAnswer}
 use Rattle.fills.specs.Fills.{fill}
 use Rattle.fills.proofs.Laws.{Carried, other-rows-kept, half-filled, stays-accepted, Goes, stops, stores, which-way}
-use Rattle.memory.specs.Memory.{scopedAt}
+use Rattle.memory.specs.Memory.{Memory, controlOf, scopedAt}
+use Rattle.memory.proofs.Laws as memory
 use Rattle.runs.specs.Running.{run}
 use Rattle.lookups.specs.declared.Wanted.{Wanted}
 use Rattle.lookups.specs.Lookups.{find}
@@ -51,13 +52,14 @@ module _ (m : List ℕ) (row : ℕ) (words : Row) (k : ℕ) (h : k < 4) (t : Tra
       by-way (stores n c) = carried-unseen n c
 
 -- what any search finds in the memory that a run leaves, at every allowance, lies in the scope of no command that it consumed
-pub none-through-consumed : (f : Features) (queue : List ℕ) (n k : ℕ) (m : List ℕ) → Accepts m n
-    → (w : Wanted) (i : ℕ) → find (run f queue k m .memory) w ≡ At i
+pub none-through-consumed : (f : Features) (queue : List ℕ) (n k : ℕ) (m : Memory) → memory.Accepts m n
+    → (w : Wanted) (i : ℕ) → find (run f queue k m .memory .kept) w ≡ At i
     → (t : ℕ) (c : Command) → t < run f queue k m .ran .consumed → commandAt f queue (controlOf m) t ≡ Legal c
     → scopedAt f c (run f queue k m .memory) i ≡ false
 none-through-consumed f queue n k m a w i e t c h l =
     let m′ = run f queue k m .memory in
-    let rows : rowsIn m′ ≡ n = rows-are m′ n (run-accepted f queue n k m a .size) in
+    let rows = memory.rows-are m′ n (run-accepted f queue n k m a) in
+    let here : i < n = omega (arith, found-below (m′ .kept) w i e, rows) in
     let z = found-after f queue n k m a .gone t h in
     let same : z .command ≡ c = cc (z .is-command) in
-    rw same at (z .gone i (rw rows at (found-below m′ w i e)))
+    rw same at (z .gone i here)

@@ -13,7 +13,7 @@ use Rattle.combining.specs.Combining.{combine}
 use Rattle.rows.specs.declared.Row.{Row}
 use Rattle.commands.specs.declared.Features.{Features}
 use Rattle.commands.specs.declared.Command.{Command}
-use Rattle.commands.specs.declared.Command.the-variants.{PrefetchConfig, PrefetchAddr, CfgiSte, CfgiSteRange, CfgiCd, CfgiCdAll, TlbiNhAll, TlbiNhAsid, TlbiNhVa, TlbiNhVaa, TlbiEl2All, TlbiEl2Asid, TlbiEl2Va, TlbiEl2Vaa, TlbiS12Vmall, TlbiS2Ipa, TlbiNsnhAll, Sync}
+use Rattle.commands.specs.declared.Command.the-variants.{PrefetchConfig, PrefetchAddr, CfgiSte, CfgiSteRange, CfgiCd, CfgiCdAll, TlbiNhAll, TlbiNhAsid, TlbiNhVa, TlbiNhVaa, TlbiEl2All, TlbiEl2Asid, TlbiEl2Va, TlbiEl2Vaa, TlbiS12Vmall, TlbiS2Ipa, TlbiNsnhAll, Sync, DptiAll, DptiPa}
 use Rattle.commands.specs.declared.Decoded.{Decoded}
 use Rattle.commands.specs.declared.Decoded.the-variants.{Legal, Illegal}
 use Rattle.commands.specs.Decoding.{decode, isCounted}
@@ -43,6 +43,8 @@ spelled (Legal (TlbiS12Vmall vmid)) = 0x28 ∷ vmid ∷ []
 spelled (Legal (TlbiS2Ipa vmid target)) = 0x2A ∷ vmid ∷ truth (target .leaf) ∷ target .page ∷ []
 spelled (Legal TlbiNsnhAll) = 0x30 ∷ []
 spelled (Legal (Sync cs)) = 0x46 ∷ cs ∷ []
+spelled (Legal DptiAll) = 0x70 ∷ []
+spelled (Legal (DptiPa page size leaf)) = 0x73 ∷ page ∷ size ∷ truth leaf ∷ []
 
 -- whether it is counted, whether it can remove no row, and whether it removes one; an illegal one does none of it
 abbrev counted : Decoded → ℕ
@@ -59,10 +61,10 @@ removing f (Legal c) row = truth (inScope f c row)
 
 -- the features of document 01
 abbrev allYes : Features
-allYes = record { s1p = true; s2p = true; asid16 = true; vmid16 = true; hyp = false; e2h = false; ril = false }
+allYes = record { s1p = true; s2p = true; asid16 = true; vmid16 = true; hyp = false; e2h = false; ril = false; dpt = false }
 
 abbrev noAsid16 : Features
-noAsid16 = record { s1p = true; s2p = true; asid16 = false; vmid16 = true; hyp = false; e2h = false; ril = false }
+noAsid16 = record { s1p = true; s2p = true; asid16 = false; vmid16 = true; hyp = false; e2h = false; ril = false; dpt = false }
 
 -- a last-level STE row of a stream, with Config 4; a last-level stage 1 row of VMID 5 and ASID 0x1234
 abbrev steRow : ℕ → Row

@@ -38,6 +38,12 @@ use Rattle.transactions.specs.declared.TransactionAnswer.{TransactionAnswer}
 use Rattle.transactions.specs.declared.TransactionAnswer.the-variants.{Refused as NotTranslated, Done as DidTranslate}
 use Rattle.transactions.specs.Call as transactions
 use Rattle.due.specs.declared.Raising.{Raising}
+use Rattle.memory.specs.Memory.{Memory}
+use Rattle.regions.specs.declared.Region.{Region}
+use Rattle.regions.specs.Table as regions
+use Rattle.region_fills.specs.declared.FillAnswer.{FillAnswer as region·FillAnswer}
+use Rattle.region_fills.specs.declared.FillAnswer.the-variants.{Refused as NotTableFilled, Done as DidTableFill}
+use Rattle.region_fills.specs.Fills as region-fills
 
 -- the number of an answer: its refusal's, or 0 where the call was carried out
 abbrev pub runNumber : RunAnswer → ℕ
@@ -47,6 +53,10 @@ runNumber (DidRun ran) = 0
 abbrev pub fillNumber : FillAnswer → ℕ
 fillNumber (NotFilled why) = fills.number why
 fillNumber (DidFill filling) = 0
+
+abbrev pub tableFillNumber : region·FillAnswer → ℕ
+tableFillNumber (NotTableFilled why) = region-fills.number why
+tableFillNumber (DidTableFill filling) = 0
 
 abbrev pub doorbellNumber : DoorbellAnswer → ℕ
 doorbellNumber (NotRung why) = control-calls.doorbellNumber why
@@ -89,8 +99,15 @@ ofImage m =
     ∷ record { number = 3; applies = some (lowest (image.isBad m) (image.rowsIn m) 0) }
     ∷ []
 
+-- document 02, T-11: then the second table's, by the calls that it is lent to
+abbrev pub ofTable : List ℕ → List Rule
+ofTable t =
+    record { number = 13; applies = not (regions.lengthGood t) }
+    ∷ record { number = 14; applies = some (lowest (regions.isBad t) (regions.rowsIn t) 0) }
+    ∷ []
+
 -- then each call's own
-abbrev pub ofRun : List ℕ → List ℕ → List Rule
+abbrev pub ofRun : List ℕ → Memory → List Rule
 ofRun queue m = record { number = 4; applies = not (runs.queueGood queue m) } ∷ []
 
 abbrev pub ofDoorbell : List ℕ → ℕ → List Rule
@@ -108,6 +125,13 @@ ofFill m row words =
     ∷ record { number = 8; applies = image.isUsed m row }
     ∷ record { number = 9; applies = not (fills.fit words) }
     ∷ record { number = 11; applies = doubled m (image.rowsIn m) words }
+    ∷ []
+
+abbrev pub ofTableFill : List ℕ → ℕ → Region → List Rule
+ofTableFill t row words =
+    record { number = 7; applies = leb (regions.rowsIn t) row }
+    ∷ record { number = 8; applies = regions.isUsed t row }
+    ∷ record { number = 9; applies = not (region-fills.fit words) }
     ∷ []
 
 abbrev pub ofTransaction : Transaction → List Rule

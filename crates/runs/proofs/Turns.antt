@@ -19,9 +19,10 @@ use Rattle.commands.specs.declared.Command.{Command}
 use Rattle.commands.specs.declared.Decoded.{Decoded}
 use Rattle.commands.specs.declared.Decoded.the-variants.{Legal, Illegal}
 use Rattle.commands.specs.Decoding.{decodeAt, syncsOf}
-use Rattle.image.specs.Image.{maxRows}
+use Rattle.image.specs.Image as image
+use Rattle.regions.specs.Table as regions
 use Rattle.memory.specs.Memory.{Memory, controlOf, rowsIn, put, stored, cleared, Whole, SameSize}
-use Rattle.memory.proofs.Laws.{control-stored, stored-whole, cleared-whole, control-cleared, size-stored, size-cleared, rows-stored, rows-cleared}
+use Rattle.memory.proofs.Laws.{control-stored, stored-whole, cleared-whole, control-cleared, size-refl, size-through, size-stored, size-cleared, rows-stored, rows-cleared}
 use Rattle.due.specs.declared.Stepped.{Stepped}
 use Rattle.due.specs.declared.Raising.{Raising}
 use Rattle.due.specs.declared.Stepped.the-variants.{Removed, Consumed, DidRaise}
@@ -85,7 +86,7 @@ due-cuts f (Illegal why) m = refl
 pub record Kept (A : ℕ) (m₀ : Memory) (queue : List ℕ) (m : Memory) (left c s r y : ℕ) : Type 0 where
   pub long : SameSize m m₀
   pub room : Whole m
-  pub few : rowsIn m ≤ maxRows
+  pub few : rowsIn m ≤ image.maxRows + regions.maxRows
   pub slots : length queue ≡ 16 * 2 ^ control.log2size (controlOf m)
   pub spent : s + left ≡ A
   pub bound : A < 2 ^ 64
@@ -156,7 +157,7 @@ module _ {m₀ : Memory} {queue : List ℕ} {f : Features} {A left₀ c₀ s₀ 
         let whole : Whole m′ = rw (t .stored) (cleared-whole m (now .kept .room) i) in
         record {
           kept = record {
-            long = ap length (t .stored) ∙ size-cleared m i ∙ now .kept .long;
+            long = rw (t .stored) (size-through (size-cleared m i) (now .kept .long));
             room = whole;
             few = rw rows (now .kept .few);
             slots = rw word (now .kept .slots);
@@ -202,7 +203,7 @@ pub record Turns (M : Memory) (queue : List ℕ) (f : Features) (A : ℕ) (m : M
 pub begun : (M : Memory) (queue : List ℕ) (f : Features) (A : ℕ) → Fit queue M → Fits w64 A → Turns M queue f A M A 0 0 0 0
 begun M queue f A fit small =
     record {
-      kept = record { long = refl; room = fit .room; few = fit .few; slots = fit .slots; spent = omega arith; bound = small .fits; cs = omega arith; rs = omega arith; ys = omega arith };
+      kept = record { long = size-refl M; room = fit .room; few = fit .few; slots = fit .slots; spent = omega arith; bound = small .fits; cs = omega arith; rs = omega arith; ys = omega arith };
       so-far = sym (plus-zero _);
     }
 
@@ -219,7 +220,7 @@ module _ {M : Memory} {queue : List ℕ} {f : Features} {A : ℕ} {m₀ : Memory
   opened {d = d} a b asks count =
       let k = turns .kept in
       record {
-        kept = record { long = refl; room = k .room; few = k .few; slots = k .slots; spent = k .spent; bound = k .bound; cs = k .cs; rs = k .rs; ys = k .ys };
+        kept = record { long = size-refl m₀; room = k .room; few = k .few; slots = k .slots; spent = k .spent; bound = k .bound; cs = k .cs; rs = k .rs; ys = k .ys };
         so-far = refl;
         word = refl;
         asks = asks;
@@ -252,7 +253,7 @@ module _ {M : Memory} {queue : List ℕ} {f : Features} {A : ℕ} {m₀ : Memory
         let size : control.log2size (controlOf m′) ≡ control.log2size (controlOf m) = ap control.log2size word ∙ after-keeps d (controlOf m) control.log2sizeBits tt in
         record {
           kept = record {
-            long = ap length (t .stored) ∙ size-stored m v ∙ k .long ∙ turns .kept .long;
+            long = rw (t .stored) (size-through (size-stored m v) (size-through (k .long) (turns .kept .long)));
             room = rw (t .stored) (stored-whole m (k .room) v);
             few = rw (ap rowsIn (t .stored) ∙ rows-stored m v) (k .few);
             slots = rw size (k .slots);

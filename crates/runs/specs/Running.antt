@@ -8,7 +8,8 @@ use Rattle.control.specs.Control as control
 use Rattle.control.specs.declared.Rest.{Rest}
 use Rattle.control.specs.declared.Rest.the-variants.{Off as Rest·Off, Held as Rest·Held, Empty as Rest·Empty}
 use Rattle.commands.specs.declared.Features.{Features}
-use Rattle.image.specs.Image.{maxRows}
+use Rattle.image.specs.Image as image
+use Rattle.regions.specs.Table as regions
 use Rattle.memory.specs.Memory.{Memory, controlOf, rowsIn, put, Whole}
 use Rattle.due.specs.Due.{What, Remove, Consume, Raise, Due, Rests, Stores, due}
 use Rattle.runs.specs.declared.End.{End}
@@ -88,5 +89,5 @@ pub record Does (f : Features) (queue : List ℕ) (k : ℕ) (m m′ : Memory) (r
 -- what a run needs of an accepted image and its queue
 pub record Fit (queue : List ℕ) (m : Memory) : Type 0 where
   pub room : Whole m
-  pub few : rowsIn m ≤ maxRows
+  pub few : rowsIn m ≤ image.maxRows + regions.maxRows
   pub slots : length queue ≡ 16 * 2 ^ control.log2size (controlOf m)

@@ -6,6 +6,7 @@ use due::Raising;
 use image::Checked;
 use image::Refusal;
 ghost use Rattle.words.specs.Outcomes.{Gives};
+ghost use Rattle.memory.specs.Memory.{both};
 ghost use Rattle.runs.specs.Call.{call};
 
 // Why a run ended; the error that it raised tells its reason and its slot.
@@ -26,9 +27,10 @@ pub struct Ran {
     pub syncs: u64,
 }
 
-// Why a run is refused: the image, or the queue's length.
+// Why a run is refused: the image, the second table, or the queue's length.
 pub enum RunRefusal {
     Image(Refusal),
+    Table(regions::Refusal),
     BadQueue,
 }
 
@@ -38,16 +40,26 @@ pub enum RunAnswer {
 }
 
 // Carries out the commands that wait, with at most allowance stores.
-pub fn run(kept: &mut [u64], queue: &[u8], f: Features, allowance: u64) -> RunAnswer
-    ensures { λ r. ⌜ Gives (call f (now (queue .entry)) allowance (now (kept .entry))) (now (kept .exit)) r ⌝ }
+pub fn run(
+    kept: &mut [u64],
+    table: &mut [u64],
+    queue: &[u8],
+    f: Features,
+    allowance: u64,
+) -> RunAnswer
+    ensures { λ r. ⌜ Gives (call f (now (queue .entry)) allowance (both (now (kept .entry)) (now (table .entry)))) (both (now (kept .exit)) (now (table .exit))) r ⌝ }
 {
     let checked = image::check(&*kept);
     if let Checked::Refused(why) = checked {
         return RunAnswer::Refused(RunRefusal::Image(why));
     }
+    let second = regions::check(&*table);
+    if let regions::Checked::Refused(why) = second {
+        return RunAnswer::Refused(RunRefusal::Table(why));
+    }
     if !running::queue_good(queue, kept[0]) {
         return RunAnswer::Refused(RunRefusal::BadQueue);
     }
-    let ran = running::go(&mut *kept, queue, f, allowance);
+    let ran = running::go(&mut *kept, &mut *table, queue, f, allowance);
     RunAnswer::Done(ran)
 }

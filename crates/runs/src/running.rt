@@ -12,6 +12,7 @@ ghost use lib.ListN.{length};
 ghost use lib.Dec.{eqb};
 ghost use Rattle.control.specs.Control.{log2size, slot};
 ghost use Rattle.commands.specs.Decoding.{decodeAt};
+ghost use Rattle.memory.specs.Memory.{both};
 ghost use Rattle.runs.specs.Running.{endOf, Does, Fit};
 
 // 16 bytes for each slot.
@@ -41,9 +42,9 @@ fn command_at(f: Features, queue: &[u8], w: u64) -> Decoded
 }
 
 // Goes through the commands, and through the rows of each, until nothing is due or the allowance is spent.
-pub fn go(kept: &mut [u64], queue: &[u8], f: Features, allowance: u64) -> Ran
-    requires { ⌜ Fit (now queue) (now kept) ⌝ }
-    ensures { λ r. ⌜ Does f (now (queue .entry)) allowance (now (kept .entry)) (now (kept .exit)) r ⌝ }
+pub fn go(kept: &mut [u64], table: &mut [u64], queue: &[u8], f: Features, allowance: u64) -> Ran
+    requires { ⌜ Fit (now queue) (both (now kept) (now table)) ⌝ }
+    ensures { λ r. ⌜ Does f (now (queue .entry)) allowance (both (now (kept .entry)) (now (table .entry))) (both (now (kept .exit)) (now (table .exit))) r ⌝ }
 {
     let mut left = allowance;
     let mut consumed: u64 = 0;
@@ -64,7 +65,7 @@ pub fn go(kept: &mut [u64], queue: &[u8], f: Features, allowance: u64) -> Ran
             }
             left -= 1;
             stores += 1;
-            match due::step(&mut *kept, f, d, from) {
+            match due::step(&mut *kept, &mut *table, f, d, from) {
                 Stepped::Removed(i) => {
                     removed += 1;
                     from = i + 1;

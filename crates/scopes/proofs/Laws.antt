@@ -3,13 +3,14 @@
 use mathlib.Core.Path.{_≡_, refl, sym, ap, _∙_}
 use mathlib.Core.Bool.{Bool, true, false, not, _&&_}
 use mathlib.Core.Logic.{⊎-elim}
+use Prim.Native.Nat.{ℕ}
 use borrow.Author.Tests.{not-true}
 use Rattle.words.proofs.Truth.{left, right, and-true, never, clash, decided}
 use Rattle.rows.specs.declared.Row.{Row}
 use Rattle.rows.specs.Rows as rows
 use Rattle.commands.specs.declared.Features.{Features}
 use Rattle.commands.specs.declared.Command.{Command}
-use Rattle.commands.specs.declared.Command.the-variants.{PrefetchConfig, PrefetchAddr, CfgiSte, CfgiSteRange, CfgiCd, CfgiCdAll, TlbiNhAll, TlbiNhAsid, TlbiNhVa, TlbiNhVaa, TlbiEl2All, TlbiEl2Asid, TlbiEl2Va, TlbiEl2Vaa, TlbiS12Vmall, TlbiS2Ipa, TlbiNsnhAll, Sync}
+use Rattle.commands.specs.declared.Command.the-variants.{PrefetchConfig, PrefetchAddr, CfgiSte, CfgiSteRange, CfgiCd, CfgiCdAll, TlbiNhAll, TlbiNhAsid, TlbiNhVa, TlbiNhVaa, TlbiEl2All, TlbiEl2Asid, TlbiEl2Va, TlbiEl2Vaa, TlbiS12Vmall, TlbiS2Ipa, TlbiNsnhAll, Sync, DptiAll, DptiPa}
 use Rattle.scopes.specs.Scopes.{removes, tooWide, inRegime, inScope, idle}
 
 pub record Scoped (f : Features) (c : Command) (row : Row) : Type 0 where
@@ -39,6 +40,8 @@ idle-or-wide f (TlbiS12Vmall vmid) row = refl
 idle-or-wide f (TlbiS2Ipa vmid target) row = refl
 idle-or-wide f TlbiNsnhAll row = refl
 idle-or-wide f (Sync cs) row = refl
+idle-or-wide f DptiAll row = refl
+idle-or-wide f (DptiPa page size leaf) row = refl
 
 -- a test between two that are the same together
 between : (a b g r : Bool) → (a && r) ≡ (b && r) → (a && g && r) ≡ (b && g && r)
@@ -91,3 +94,12 @@ module _ (f : Features) (c : Command) (row : Row) where
 
   pub then-scoped : rows.isEmpty row ≡ false → removes c row ≡ true → (not (idle f c) && inRegime f c row) ≡ inScope f c row
   then-scoped u e = sym (with-true (not (idle f c) && inRegime f c row) e) ∙ in-scope-if u
+
+-- document 02, T-11: 70 and 73 have no row of this table in scope
+pub dpti-all-spares : (f : Features) (row : Row) → inScope f DptiAll row ≡ false
+unfolding removes
+dpti-all-spares f row = not-removed f DptiAll row refl
+
+pub dpti-pa-spares : (f : Features) (page size : ℕ) (leaf : Bool) (row : Row) → inScope f (DptiPa page size leaf) row ≡ false
+unfolding removes
+dpti-pa-spares f page size leaf row = not-removed f (DptiPa page size leaf) row refl

@@ -8,7 +8,7 @@ use Rattle.rows.specs.declared.Row.{Row}
 use Rattle.rows.specs.Rows as rows
 use Rattle.commands.specs.declared.Features.{Features}
 use Rattle.commands.specs.declared.Command.{Command}
-use Rattle.commands.specs.declared.Command.the-variants.{PrefetchConfig, PrefetchAddr, CfgiSte, CfgiSteRange, CfgiCd, CfgiCdAll, TlbiNhAll, TlbiNhAsid, TlbiNhVa, TlbiNhVaa, TlbiEl2All, TlbiEl2Asid, TlbiEl2Va, TlbiEl2Vaa, TlbiS12Vmall, TlbiS2Ipa, TlbiNsnhAll, Sync}
+use Rattle.commands.specs.declared.Command.the-variants.{PrefetchConfig, PrefetchAddr, CfgiSte, CfgiSteRange, CfgiCd, CfgiCdAll, TlbiNhAll, TlbiNhAsid, TlbiNhVa, TlbiNhVaa, TlbiEl2All, TlbiEl2Asid, TlbiEl2Va, TlbiEl2Vaa, TlbiS12Vmall, TlbiS2Ipa, TlbiNsnhAll, Sync, DptiAll, DptiPa}
 use Rattle.scopes.specs.Scopes.{steOf, cdOf, cdAt, stageOf, stageAt, ownOf, ownAt, removes, tooWide, inRegime, inScope}
 use Rattle.scopes.specs.Kinds.{isAbout}
 
@@ -49,6 +49,8 @@ module _ (row : Row) where
   other-kind (TlbiS2Ipa vmid target) e = rw e
   other-kind TlbiNsnhAll e = rw (first-not (is rows.stage1) (is rows.stage2) e, second-not (is rows.stage1) (is rows.stage2) e)
   other-kind (Sync cs) e = refl
+  other-kind DptiAll e = refl
+  other-kind (DptiPa page size leaf) e = refl
 
   pub kind-spares : (f : Features) (c : Command) → isAbout c (rows.kind row) ≡ false → inScope f c row ≡ false
   unfolding inScope

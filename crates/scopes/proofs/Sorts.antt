@@ -12,7 +12,7 @@ use Rattle.rows.specs.Rows as rows
 use Rattle.commands.specs.declared.Features.{Features}
 use Rattle.commands.specs.declared.Target.{Target}
 use Rattle.commands.specs.declared.Command.{Command}
-use Rattle.commands.specs.declared.Command.the-variants.{PrefetchConfig, PrefetchAddr, CfgiSte, CfgiSteRange, CfgiCd, CfgiCdAll, TlbiNhAll, TlbiNhAsid, TlbiNhVa, TlbiNhVaa, TlbiEl2All, TlbiEl2Asid, TlbiEl2Va, TlbiEl2Vaa, TlbiS12Vmall, TlbiS2Ipa, TlbiNsnhAll, Sync}
+use Rattle.commands.specs.declared.Command.the-variants.{PrefetchConfig, PrefetchAddr, CfgiSte, CfgiSteRange, CfgiCd, CfgiCdAll, TlbiNhAll, TlbiNhAsid, TlbiNhVa, TlbiNhVaa, TlbiEl2All, TlbiEl2Asid, TlbiEl2Va, TlbiEl2Vaa, TlbiS12Vmall, TlbiS2Ipa, TlbiNsnhAll, Sync, DptiAll, DptiPa}
 use Rattle.scopes.specs.Ranges.{reaches}
 use Rattle.scopes.specs.Scopes.{spared, ofStage, stageOf, stageAt, ownOf, ownAt, isE2h, hasAsid, removes, inScope}
 use Rattle.scopes.specs.Kinds.{isAbout}
@@ -39,6 +39,8 @@ isOwn (TlbiS12Vmall vmid) = false
 isOwn (TlbiS2Ipa vmid target) = false
 isOwn TlbiNsnhAll = false
 isOwn (Sync cs) = false
+isOwn DptiAll = false
+isOwn (DptiPa page size leaf) = false
 
 module _ (row : Row) where
   -- what a test of a row says of its mark
@@ -86,6 +88,8 @@ module _ (row : Row) where
   own-marked (TlbiS2Ipa v t) o e = clash o refl
   own-marked TlbiNsnhAll o e = clash o refl
   own-marked (Sync cs) o e = clash o refl
+  own-marked DptiAll o e = clash o refl
+  own-marked (DptiPa p s l) o e = clash o refl
 
   pub others-spared : (f : Features) (c : Command) → isOwn c ≡ true → rows.isUnmarked row ≡ true → inScope f c row ≡ false
   others-spared f c o u = never (inScope f c row) (λ e. clash u (own-marked c o (scoped f c row e .removed)))
@@ -125,6 +129,8 @@ module _ (row : Row) (k : rows.kind row ≡ rows.stage1) where
       (λ p. right (eqb (rows.kind row) rows.stage2) (rows.isUnmarked row) p)
       (either (ofStage row rows.stage1) (ofStage row rows.stage2) e)
   other-unmarked (Sync cs) o e = clash e refl
+  other-unmarked DptiAll o e = clash e refl
+  other-unmarked (DptiPa p s l) o e = clash e refl
 
   -- so 10 to 13, 28 and 30 spare the hypervisor's own rows
   pub own-spared : (f : Features) (c : Command) → isOwn c ≡ false → rows.isUnmarked row ≡ false → inScope f c row ≡ false

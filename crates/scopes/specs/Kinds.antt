@@ -5,7 +5,7 @@ use mathlib.Core.Bool.{Bool, false, _||_}
 use lib.Dec.{eqb}
 use Rattle.rows.specs.Rows as rows
 use Rattle.commands.specs.declared.Command.{Command}
-use Rattle.commands.specs.declared.Command.the-variants.{PrefetchConfig, PrefetchAddr, CfgiSte, CfgiSteRange, CfgiCd, CfgiCdAll, TlbiNhAll, TlbiNhAsid, TlbiNhVa, TlbiNhVaa, TlbiEl2All, TlbiEl2Asid, TlbiEl2Va, TlbiEl2Vaa, TlbiS12Vmall, TlbiS2Ipa, TlbiNsnhAll, Sync}
+use Rattle.commands.specs.declared.Command.the-variants.{PrefetchConfig, PrefetchAddr, CfgiSte, CfgiSteRange, CfgiCd, CfgiCdAll, TlbiNhAll, TlbiNhAsid, TlbiNhVa, TlbiNhVaa, TlbiEl2All, TlbiEl2Asid, TlbiEl2Va, TlbiEl2Vaa, TlbiS12Vmall, TlbiS2Ipa, TlbiNsnhAll, Sync, DptiAll, DptiPa}
 
 unfoldable pub isAbout : Command → ℕ → Bool
 isAbout PrefetchConfig kind = false
@@ -26,3 +26,5 @@ isAbout (TlbiS12Vmall vmid) kind = eqb kind rows.stage1 || eqb kind rows.stage2
 isAbout (TlbiS2Ipa vmid target) kind = eqb kind rows.stage2
 isAbout TlbiNsnhAll kind = eqb kind rows.stage1 || eqb kind rows.stage2
 isAbout (Sync cs) kind = false
+isAbout DptiAll kind = false
+isAbout (DptiPa page size leaf) kind = false

@@ -1,4 +1,4 @@
--- Document 01, Commands and their scopes, with document 02, T-05 and T-07: which rows a legal command removes.
+-- Document 01, Commands and their scopes, with document 02, T-05, T-07 and T-11: which rows a legal command removes.
 -- Assumes nothing.
 use Prim.Native.Nat.{ℕ, _+_, _*_, _/_, _^_, max}
 use mathlib.Core.Bool.{Bool, true, false, not, _&&_, _||_}
@@ -10,7 +10,7 @@ use Rattle.rows.specs.Rows as rows
 use Rattle.commands.specs.declared.Features.{Features}
 use Rattle.commands.specs.declared.Target.{Target}
 use Rattle.commands.specs.declared.Command.{Command}
-use Rattle.commands.specs.declared.Command.the-variants.{PrefetchConfig, PrefetchAddr, CfgiSte, CfgiSteRange, CfgiCd, CfgiCdAll, TlbiNhAll, TlbiNhAsid, TlbiNhVa, TlbiNhVaa, TlbiEl2All, TlbiEl2Asid, TlbiEl2Va, TlbiEl2Vaa, TlbiS12Vmall, TlbiS2Ipa, TlbiNsnhAll, Sync}
+use Rattle.commands.specs.declared.Command.the-variants.{PrefetchConfig, PrefetchAddr, CfgiSte, CfgiSteRange, CfgiCd, CfgiCdAll, TlbiNhAll, TlbiNhAsid, TlbiNhVa, TlbiNhVaa, TlbiEl2All, TlbiEl2Asid, TlbiEl2Va, TlbiEl2Vaa, TlbiS12Vmall, TlbiS2Ipa, TlbiNsnhAll, Sync, DptiAll, DptiPa}
 use Rattle.scopes.specs.declared.Block.{Block}
 use Rattle.scopes.specs.Ranges.{reaches}
 
@@ -82,7 +82,7 @@ hasAsid row asid = eqb (rows.asid row) asid
 abbrev pub isStage : Row → Bool
 isStage row = ofStage row rows.stage1 || ofStage row rows.stage2
 
--- the table's last column, and 20 to 23
+-- the table's last column, and 20 to 23; 70 and 73 are about another table
 unfoldable pub removes : Command → Row → Bool
 removes PrefetchConfig row = false
 removes PrefetchAddr row = false
@@ -104,6 +104,8 @@ removes (TlbiS12Vmall vmid) row = stageOf row rows.stage1 vmid || stageOf row ro
 removes (TlbiS2Ipa vmid target) row = stageAt row rows.stage2 vmid target && not (spared row (target .leaf))
 removes TlbiNsnhAll row = isStage row
 removes (Sync cs) row = false
+removes DptiAll row = false
+removes (DptiPa page size leaf) row = false
 
 -- an identifier of sixteen bits has none of its upper eight set, or the feature is there
 abbrev pub narrow : Bool → ℕ → Bool
@@ -129,6 +131,8 @@ tooWide f (TlbiS12Vmall vmid) = not (narrow (f .vmid16) vmid)
 tooWide f (TlbiS2Ipa vmid target) = not (narrow (f .vmid16) vmid)
 tooWide f TlbiNsnhAll = false
 tooWide f (Sync cs) = false
+tooWide f DptiAll = false
+tooWide f (DptiPa page size leaf) = false
 
 -- document 02, T-05: 22 and 23 are about one sort of the hypervisor's own rows, which the setting E2H names
 abbrev pub regime : Features → ℕ
@@ -153,6 +157,8 @@ byRegime (TlbiS12Vmall vmid) = false
 byRegime (TlbiS2Ipa vmid target) = false
 byRegime TlbiNsnhAll = false
 byRegime (Sync cs) = false
+byRegime DptiAll = false
+byRegime (DptiPa page size leaf) = false
 
 unfoldable pub inRegime : Features → Command → Row → Bool
 inRegime f command row = not (byRegime command) || eqb (rows.mark row) (regime f)
@@ -182,6 +188,8 @@ invalidates (TlbiS12Vmall vmid) = true
 invalidates (TlbiS2Ipa vmid target) = true
 invalidates TlbiNsnhAll = true
 invalidates (Sync cs) = false
+invalidates DptiAll = true
+invalidates (DptiPa page size leaf) = true
 
 -- no row need be looked at: it is no invalidation, or it is too wide
 unfoldable pub idle : Features → Command → Bool

@@ -1,4 +1,4 @@
-// Document 01, Commands and their scopes, with document 02, T-05 and T-07: which rows a legal command removes.
+// Document 01, Commands and their scopes, with document 02, T-05, T-07 and T-11: which rows a legal command removes.
 use commands::Command;
 use commands::Features;
 use commands::Target;
@@ -307,6 +307,8 @@ fn removes(c: Command, row: Row) -> bool
         Command::TlbiS2Ipa(vmid, target) => removes_2a(row, vmid, target),
         Command::TlbiNsnhAll => removes_30(row),
         Command::Sync(_) => false,
+        Command::DptiAll => false,
+        Command::DptiPa(_, _, _) => false,
     }
 }
 
@@ -339,6 +341,8 @@ pub fn idle(f: Features, c: Command) -> bool
         Command::TlbiS2Ipa(vmid, _) => !narrow(f.vmid16, vmid),
         Command::TlbiNsnhAll => false,
         Command::Sync(_) => true,
+        Command::DptiAll => false,
+        Command::DptiPa(_, _, _) => false,
     }
 }
 
@@ -365,6 +369,8 @@ fn is_about(c: Command, kind: u64) -> bool
         Command::TlbiS2Ipa(_, _) => kind == kinds::STAGE2,
         Command::TlbiNsnhAll => (kind == kinds::STAGE1) | (kind == kinds::STAGE2),
         Command::Sync(_) => false,
+        Command::DptiAll => false,
+        Command::DptiPa(_, _, _) => false,
     }
 }
 
@@ -401,6 +407,8 @@ fn by_regime(c: Command) -> bool
         Command::TlbiS2Ipa(_, _) => false,
         Command::TlbiNsnhAll => false,
         Command::Sync(_) => false,
+        Command::DptiAll => false,
+        Command::DptiPa(_, _, _) => false,
     }
 }
 

@@ -11,4 +11,6 @@ pub const HYP: u64 = 16;
 
 pub const RIL: u64 = 32;
 
-pub const ALL: u64 = 63;
+pub const DPT: u64 = 64;
+
+pub const ALL: u64 = 127;

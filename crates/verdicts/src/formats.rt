@@ -1,7 +1,8 @@
-// Document 01, Commands and their scopes, and document 02, T-05 and T-07: which codes are known, which bits of each are Reserved,
-// which features it needs, and what it may have with a range.
+// Document 01, Commands and their scopes, and document 02, T-05, T-07 and T-11: which codes are known, which bits of each are
+// Reserved, which features it needs, and what it may have with a range.
 use crate::features::ALL;
 use crate::features::ASID16;
+use crate::features::DPT;
 use crate::features::HYP;
 use crate::features::RIL;
 use crate::features::S1P;
@@ -135,6 +136,8 @@ fn one_code(c: u64) {
     verdict(features_of(ALL - HYP), c, 0);
     say(b", RIL");
     verdict(features_of(ALL - RIL), c, 0);
+    say(b", DPT");
+    verdict(features_of(ALL - DPT), c, 0);
     say(b"\n  Reserved:");
     reserved(features_of(ALL), c, 0);
     if is_legal(no_s2p, c, 0) {
@@ -200,6 +203,8 @@ fn code_by_code() {
     ranged_code(0x2A);
     one_code(0x30);
     one_code(0x46);
+    one_code(0x70);
+    one_code(0x73);
 }
 
 fn sync() {

@@ -12,6 +12,9 @@ slice-aggregate-call c = rw length-take (omega arith)
 slice-aggregate-call-2 : tie.Need-slice-aggregate-call-2
 slice-aggregate-call-2 c = rw length-take (omega arith)
 
+slice-aggregate-call-3 : tie.Need-slice-aggregate-call-3
+slice-aggregate-call-3 c = rw length-take (omega arith)
+
 pub call-spec : {M : Type 1} → statement M
 call-spec =
     tie.close
@@ -20,8 +23,12 @@ call-spec =
     (λ c κs. search needs)
     (λ c. search needs)
     slice-aggregate-call
+    (λ c. search needs)
     slice-aggregate-call-2
+    slice-aggregate-call-3
     (λ c κs. search needs)
+    (λ c. search needs)
+    (λ c. search needs)
     (λ c. search needs)
     (λ c. search needs)
     (λ c. search needs)

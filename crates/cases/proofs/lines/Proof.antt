@@ -6,10 +6,10 @@ use Rattle.cases.proofs.lines.Statement.{statement}
 use Rattle.cases.proofs.lines.Tie as tie
 
 abbrev Inv-loop : tie.InvT-loop
-Inv-loop kept₀ queue₀ words₀ bytes₀ counter₀ kept queue words bytes counter = Unit {0}
+Inv-loop kept₀ table₀ queue₀ words₀ lent₀ bytes₀ counter₀ kept table queue words lent bytes counter = Unit {0}
 
 abbrev μ-loop : tie.MeasureT-loop
-μ-loop kept₀ queue₀ words₀ bytes₀ counter₀ kept queue words bytes counter = 18446744073709551615 - counter
+μ-loop kept₀ table₀ queue₀ words₀ lent₀ bytes₀ counter₀ kept table queue words lent bytes counter = 18446744073709551615 - counter
 
 pub lines-spec : {M : Type 1} → statement M
 lines-spec =
@@ -20,6 +20,7 @@ lines-spec =
     (λ c. search needs)
     (λ c κs. search needs)
     (λ c. search needs)
+    (λ c κs. search needs)
     (λ c κs. search needs)
     (λ c κs. search needs)
     (λ c κs. search needs)

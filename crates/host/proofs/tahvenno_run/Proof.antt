@@ -9,7 +9,7 @@ use Rattle.host.proofs.tahvenno_run.Tie as tie
 
 returns : tie.Need-returns
 returns c =
-    let made = rw (c .before .before .before .before .before .before .before .features-of .ensures) at (c .before .before .before .before .before .run .ensures) in
+    let made = rw (c .before .before .before .before .before .before .before .before .before .before .features-of .ensures) at (c .before .before .before .before .before .before .before .run .ensures) in
     leaves (c .tell .ensures) (c .before .run-reply .ensures ∙ ap runReply (made .answers)) (made .leaves)
 
 pub tahvenno-run-spec : {M : Type 1} → statement M
@@ -20,5 +20,6 @@ tahvenno-run-spec =
     (λ c κs. search needs)
     (λ c κs. search needs)
     (λ c κs. search needs)
+    (λ c. search needs)
     (λ c. search needs)
     returns)

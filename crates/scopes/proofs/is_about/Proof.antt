@@ -44,6 +44,8 @@ is-about-spec =
     (λ c. search needs)
     (λ c. search needs)
     (λ c. search needs)
+    (λ c. search needs)
+    (λ c. search needs)
     (λ c. rw (c .enum-told .given .1))
     (λ c. rw (c .enum-told2 .given .1))
     returns-3
@@ -61,4 +63,6 @@ is-about-spec =
     returns-15
     (λ c. rw (c .enum-told16 .given .1))
     returns-17
-    (λ c. rw (c .enum-told18 .given .1)))
+    (λ c. rw (c .enum-told18 .given .1))
+    (λ c. rw (c .enum-told19 .given .1))
+    (λ c. rw (c .enum-told20 .given .1)))

@@ -82,6 +82,8 @@ removes-spec =
     (λ c. search needs)
     (λ c κs. search needs)
     (λ c. search needs)
+    (λ c. search needs)
+    (λ c. search needs)
     (λ c. rw (c .enum-told .given .1))
     (λ c. rw (c .enum-told2 .given .1))
     returns-3
@@ -99,4 +101,6 @@ removes-spec =
     returns-15
     returns-16
     (λ c. rw (c .before .enum-told4 .given .1) (c .removes-30 .ensures))
-    (λ c. rw (c .enum-told5 .given .1)))
+    (λ c. rw (c .enum-told5 .given .1))
+    (λ c. rw (c .enum-told6 .given .1))
+    (λ c. rw (c .enum-told7 .given .1)))

@@ -17,6 +17,13 @@ returns-16 : tie.Need-returns-16
 unfolding featurePresent
 returns-16 c = rw (c .match .keys16)
 
+returns-19 : tie.Need-returns-19
+unfolding featurePresent
+returns-19 c = rw (c .match .keys19)
+
+returns-20 : tie.Need-returns-20
+returns-20 c = last-present (c .before .args .f) (c .before .args .code) (c .match .rest)
+
 pub feature-present-spec : {M : Type 1} → statement M
 unfolding featurePresent
 feature-present-spec =
@@ -39,4 +46,6 @@ feature-present-spec =
     (λ c. rw (c .match .keys15))
     returns-16
     (λ c. rw (c .match .keys17))
-    (λ c. last-present (c .before .args .f) (c .before .args .code) (c .match .rest)))
+    (λ c. rw (c .match .keys18))
+    returns-19
+    returns-20)

@@ -1,22 +1,23 @@
 -- `runs::running::go` meets its contract: at each turn the rest of the run is the run from there.
 -- Assumes nothing.
 use borrow.Author.Needs.{needs}
+use Rattle.memory.specs.Memory.{both}
 use Rattle.runs.proofs.Turns.{Rows, Turns, begun, opened, go-remove, consumed-on, rest-end, cut-end, raise-end, from-fits}
 use Rattle.runs.proofs.running.go.Statement.{statement}
 use Rattle.runs.proofs.running.go.Tie as tie
 
 abbrev Inv-rows : tie.InvT-rows
-Inv-rows kept₀ queue f allowance left₀ consumed₀ stores₀ removed₀ syncs₀ w d sync from₀ kept left consumed stores removed syncs from =
-    Rows kept₀ queue f allowance left₀ consumed₀ stores₀ removed₀ syncs₀ w d sync kept left consumed stores removed syncs from
+Inv-rows kept₀ table₀ queue f allowance left₀ consumed₀ stores₀ removed₀ syncs₀ w d sync from₀ kept table left consumed stores removed syncs from =
+    Rows (both kept₀ table₀) queue f allowance left₀ consumed₀ stores₀ removed₀ syncs₀ w d sync (both kept table) left consumed stores removed syncs from
 
 abbrev μ-rows : tie.MeasureT-rows
-μ-rows kept₀ queue f allowance left₀ consumed₀ stores₀ removed₀ syncs₀ w d sync from₀ kept left consumed stores removed syncs from = left
+μ-rows kept₀ table₀ queue f allowance left₀ consumed₀ stores₀ removed₀ syncs₀ w d sync from₀ kept table left consumed stores removed syncs from = left
 
 abbrev Inv-run : tie.InvT-run
-Inv-run kept₀ queue f allowance left₀ consumed₀ stores₀ removed₀ syncs₀ kept left consumed stores removed syncs = Turns kept₀ queue f allowance kept left consumed stores removed syncs
+Inv-run kept₀ table₀ queue f allowance left₀ consumed₀ stores₀ removed₀ syncs₀ kept table left consumed stores removed syncs = Turns (both kept₀ table₀) queue f allowance (both kept table) left consumed stores removed syncs
 
 abbrev μ-run : tie.MeasureT-run
-μ-run kept₀ queue f allowance left₀ consumed₀ stores₀ removed₀ syncs₀ kept left consumed stores removed syncs = left
+μ-run kept₀ table₀ queue f allowance left₀ consumed₀ stores₀ removed₀ syncs₀ kept table left consumed stores removed syncs = left
 
 run-holds : tie.Need-run-holds Inv-rows μ-rows Inv-run μ-run
 run-holds c = search begun
@@ -74,8 +75,11 @@ go-spec =
     run-again
     (λ c. search needs)
     (λ c. search needs)
+    (λ c. search needs)
     returns
     (λ c. search needs)
+    (λ c. search needs)
     returns-2
+    (λ c. search needs)
     (λ c. search needs)
     returns-3)

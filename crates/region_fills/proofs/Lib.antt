@@ -1,0 +1,4 @@
+pub mod Order
+pub mod Cases
+pub mod Laws
+pub mod Cuts
