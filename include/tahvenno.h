@@ -92,8 +92,8 @@
  * rows whose span has an address in the range, and else goes by what it goes by without one: VMID, ASID, E2H, Leaf. TG 0 is the
  * single address. TTL, bits 73:72, and TTL128, bit 71, say at which level the guest's tables hold the entry; they narrow nothing.
  *
- * Illegal by TAHVENNO_BAD_PARAMETER: TG not 0 with NUM 0, SCALE 0 and TTL 0, and so TG 2 with TTL 1, which is no level of a 16 KiB
- * granule and is read as TTL 0. Illegal by TAHVENNO_RESERVED_BIT: NUM, SCALE, TTL or TTL128 with TG 0, TTL128 with TTL 0, and bit
+ * Illegal by TAHVENNO_BAD_PARAMETER: TG not 0 with NUM 0, SCALE 0 and TTL 0; with TG 2 also NUM 0, SCALE 0 and TTL 1, since that is
+ * no level of a 16 KiB granule. Illegal by TAHVENNO_RESERVED_BIT: NUM, SCALE, TTL or TTL128 with TG 0, TTL128 with TTL 0, and bit
  * 25, since SCALE has five bits here. Without TAHVENNO_RIL all five fields are Reserved.
  *
  * REGIONS. The second table holds what is cached of the guest's device permission table: each row a region of one of ten sizes,
@@ -104,8 +104,8 @@
  *   73  the rows within the region of length SIZE from Address on; with Leaf, bit 64, only last-level ones
  *
  * Address[55:12] stands in bits 119:76 and SIZE in bits 75:72; every other bit is Reserved, and 70 has no fields. Bits 55:52 of
- * Address are treated as 0. A row that is larger than SIZE stays, even if it holds the address. A SIZE of 10 to 15, or an Address
- * that is not a multiple of the size, is legal and removes nothing. Neither code takes a row of the kept memory, and no other code
+ * Address count as 0. A row that is larger than SIZE stays, even if it holds the address. A SIZE of 10 to 15, or an Address
+ * that is not a multiple of the size, is consumed and takes no row. Neither code takes a row of the kept memory, and no other code
  * takes one of the second table. Without TAHVENNO_DPT both are illegal (TAHVENNO_FEATURE_ABSENT). The counts of a run have the
  * second table's rows in them. No transaction looks at it, and table_fill knows no doubles: it never gives 11.
  *

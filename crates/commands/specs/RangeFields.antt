@@ -1,5 +1,5 @@
--- Document 02, T-07: which bits of a range may be set, and the verdict on each combination of its fields, as a table to hold decoding
--- to. Reasons are numbers, legal is 0.
+-- Document 02, T-07: which bits of a range may be set, and the verdict on its fields, as a table to hold decoding to: of 13, with every
+-- TG, TTL and TTL128 and with NUM and SCALE 0 or 1. Reasons are numbers, legal is 0.
 -- Assumes nothing.
 use Prim.Native.Nat.{ℕ, _+_, _*_, _^_}
 use mathlib.Core.Bool.{Bool, true, false, not, _&&_, _||_}

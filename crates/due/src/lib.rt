@@ -26,7 +26,7 @@ pub enum Stepped {
     DidRaise(Raising),
 }
 
-// Row i is of the first table, or behind those of the second.
+// Row i is of the first table or, behind those, of the second.
 fn scoped_at(kept: &[u64], table: &[u64], f: Features, c: Command, i: usize) -> bool
     requires { ⌜ Whole (both (now kept) (now table)) × (i < rowsIn (both (now kept) (now table))) ⌝ }
     ensures { λ r. ⌜ r ≡ scopedAt f c (both (now (kept .entry)) (now (table .entry))) i ⌝ }

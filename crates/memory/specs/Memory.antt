@@ -82,7 +82,7 @@ stored m v = put m Control v
 abbrev pub cleared : Memory → ℕ → Memory
 cleared m i = put m (Word0 i) 0
 
--- there is a word for every part of every row
+-- there is a word for every part of every row; of the second table that follows from how its rows are counted
 abbrev pub Whole : Memory → Type 0
 Whole m = 4 * keptRows m + 1 ≤ length (m .kept)
 
