@@ -4,7 +4,7 @@ use mathlib.Core.Path.{_≡_, refl, sym, ap, ap₂, _∙_, subst}
 use mathlib.Core.Bool.{Bool, true, false, _&&_, _||_}
 use mathlib.Core.List.{List, [], _∷_, _++_, map}
 use Prim.Native.Nat.{ℕ, _+_, _-_, _*_, _/_, _%_, _^_, _≤_, _<_}
-use native.Mathlib.Nat.{mod-lt, mod-eq-of-lt, lt-of-lt-of-le}
+use native.Mathlib.Nat.{mod-lt, mod-eq-of-lt, lt-of-lt-of-le, mul-assoc, mul-comm}
 use native.Mathlib.Omega.{arith}
 use lib.Arith.{digits-lt}
 use lib.Dec.{T, ltb, leb, leb→le}
@@ -17,6 +17,12 @@ use Rattle.words.proofs.Truth.{left, right, passed, T-left, T-right}
 pub part-lt : (r : Range) (w : ℕ) → get r w < 2 ^ width r
 unfolding part
 part-lt (bits h l) w = mod-lt (w / 2 ^ l) (pow-pos (h + 1 - l))
+
+-- what is above bit h, by way of the bits from h on
+pub above-top : (h w : ℕ) → w / 2 ^ h / 2 * 2 * 2 ^ h ≡ w / 2 ^ (h + 1) * 2 ^ (h + 1)
+above-top h w =
+    ap (λ (x : ℕ). x * 2 * 2 ^ h) (shr-shr w h 1) ∙ mul-assoc (w / 2 ^ (h + 1)) 2 (2 ^ h)
+    ∙ ap (λ (x : ℕ). w / 2 ^ (h + 1) * x) (mul-comm 2 (2 ^ h) ∙ sym (pow-add 2 h 1))
 
 -- `put`, by the width d of the part and the bits l below it
 module _ (d l v w : ℕ) where

@@ -29,13 +29,13 @@ pub fn part(w: u64, h: u64, l: u64) -> u64
     (w >> l) % power(h + 1 - l)
 }
 
-// The word w with v in its bits h down to l.
+// The word w with v in its bits h down to l. What is above them is reached in two steps, since 2^64 is no word.
 pub fn put(w: u64, h: u64, l: u64, v: u64) -> u64
-    requires { ⌜ (l ≤ h) × (h < 63) ⌝ }
+    requires { ⌜ (l ≤ h) × (h < 64) × (h < l + 63) ⌝ }
     ensures { λ r. ⌜ r ≡ put h l v w ⌝ }
 {
-    let top = power(h + 1);
-    w / top * top + (v % power(h + 1 - l) * power(l) + w % power(l))
+    let top = power(h);
+    w / top / 2 * 2 * top + (v % power(h + 1 - l) * power(l) + w % power(l))
 }
 
 // Whether the n numbers from a on and the k from b on share one, by the distance of a and b: an end may be 2^64.
