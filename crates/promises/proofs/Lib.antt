@@ -14,6 +14,7 @@ pub mod RunCalls
 pub mod Pending
 pub mod Transactions
 pub mod Ends
+pub mod Legal
 pub mod Order
 pub mod Calls
 pub mod Filling
