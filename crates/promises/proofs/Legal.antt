@@ -1,7 +1,7 @@
 -- Document 01, One run: where every command that waits is legal, a run with allowance enough consumes them all and ends Empty.
 -- Assumes nothing.
 use mathlib.Core.Path.{_≡_, refl, sym, ap, _∙_}
-use mathlib.Core.Bool.{Bool, true, false}
+use mathlib.Core.Bool.{true, false}
 use mathlib.Core.List.{List}
 use Prim.Native.Nat.{ℕ, zero, suc, _+_, _%_, _≤_, _<_}
 use native.Mathlib.Nat.{mod-eq-of-lt, add-mod-mod}
@@ -25,7 +25,7 @@ use Rattle.due.specs.Due.{What, Remove, Consume, Raise, afterCommand, atRd}
 use Rattle.due.proofs.Consuming.{after-keeps, after-rd, after-formed, after-distance}
 use Rattle.runs.specs.declared.End.{End}
 use Rattle.runs.specs.declared.End.the-variants.{Off, Held, Empty, Raised, Cut}
-use Rattle.runs.specs.Running.{Out, Next, rests, stores, last, next, runBy, dueIn, run}
+use Rattle.runs.specs.Running.{Next, rests, stores, last, next, runBy, dueIn, run}
 use Rattle.promises.specs.Found.{advanced, commandAt}
 use Rattle.promises.specs.Ends.{IsOff, IsHeld, IsEmpty, Means}
 use Rattle.promises.proofs.Cases.{Case, removes, consumes, raises, IsDue, is-due}
