@@ -18,6 +18,9 @@ use crate::lent::{Lent, Memory};
 use crate::limits::{words, REGIONS, ROWS, SLOTS};
 use crate::unit;
 use std::process::Command;
+use std::sync::atomic::{AtomicUsize, Ordering};
+use std::sync::Mutex;
+use std::thread;
 
 #[derive(Clone, Copy)]
 enum Fault {
@@ -162,9 +165,20 @@ fn parameters() -> Vec<Wrong> {
 /// Runs this program on each wrong unit; whether all were caught.
 pub fn all_caught() -> bool {
     let all = all();
-    let missed: Vec<&Wrong> = all.iter().filter(|wrong| !caught(wrong)).collect();
-    for wrong in &missed {
-        println!("not caught: {}", wrong.name);
+    let next = AtomicUsize::new(0);
+    let missed = Mutex::new(Vec::new());
+    let try_all = || {
+        while let Some(wrong) = all.get(next.fetch_add(1, Ordering::Relaxed)) {
+            if !caught(wrong) {
+                missed.lock().expect("no panic").push(&wrong.name);
+            }
+        }
+    };
+    let workers = thread::available_parallelism().map_or(1, usize::from);
+    thread::scope(|scope| (0..workers).for_each(|_| drop(scope.spawn(try_all))));
+    let missed = missed.into_inner().expect("no panic");
+    for name in &missed {
+        println!("not caught: {name}");
     }
     println!("{} wrong units, {} not caught", all.len(), missed.len());
     missed.is_empty() && !all.is_empty()
