@@ -1,7 +1,7 @@
 -- Document 01, One run: where every command that waits is legal, a run with allowance enough consumes them all and ends Empty.
 -- Assumes nothing.
 use mathlib.Core.Path.{_≡_, refl, sym, ap, _∙_}
-use mathlib.Core.Bool.{true, false}
+use mathlib.Core.Bool.{true}
 use mathlib.Core.List.{List}
 use Prim.Native.Nat.{ℕ, zero, suc, _+_, _%_, _≤_, _<_}
 use native.Mathlib.Nat.{mod-eq-of-lt, add-mod-mod}
@@ -27,6 +27,7 @@ use Rattle.runs.specs.declared.End.{End}
 use Rattle.runs.specs.declared.End.the-variants.{Off, Held, Empty, Raised, Cut}
 use Rattle.runs.specs.Running.{Next, rests, stores, last, next, runBy, dueIn, run}
 use Rattle.promises.specs.Found.{advanced, commandAt}
+pub use Rattle.promises.specs.Legal.{AllLegal}
 use Rattle.promises.specs.Ends.{IsOff, IsHeld, IsEmpty, Means}
 use Rattle.promises.proofs.Cases.{Case, removes, consumes, raises, IsDue, is-due}
 use Rattle.promises.proofs.Accepted.{store-accepted}
@@ -111,12 +112,6 @@ module _ (f : Features) (queue : List ℕ) where
       → commandAt f queue w t ≡ decodeAt f queue (indexes.slot (control.log2size w) ((t + control.rd w) % indexes.turn (control.log2size w)))
   unfolding control.slot
   waiting-at t w formed h = let a = waiting-rd t w (control-formed.formed w formed) (omega arith) in rw (a .0, a .1)
-
--- a queue that is enabled, with no error, and whose waiting commands are all legal
-pub record AllLegal (f : Features) (queue : List ℕ) (w : ℕ) : Type 0 where
-  pub enabled : control.cmdqen w ≡ 0 → ⊥
-  pub quiet : control.active w ≡ false
-  pub legal : (t : ℕ) → t < control.distance w → isIllegal (commandAt f queue w t) ≡ false
 
 module _ (f : Features) (queue : List ℕ) (n : ℕ) where
   record Ready (m : Memory) : Type 0 where

@@ -13,3 +13,4 @@ pub mod Numbers
 pub mod Pending
 pub mod Recorder
 pub mod Ranges
+pub mod Legal
