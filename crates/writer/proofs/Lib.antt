@@ -1,0 +1,5 @@
+pub mod ByCode
+pub mod Asking
+pub mod Reading
+pub mod Lines
+pub mod Judging
