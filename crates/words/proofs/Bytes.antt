@@ -53,6 +53,20 @@ taken-apart (b ∷ bs) (one h rest) =
     let others : (b + 256 * littleEndian bs) / 256 ≡ littleEndian bs = omega arith in
     rw (first, others) (ap (λ (l : List ℕ). b ∷ l) (taken-apart bs rest))
 
+pub little-lt : (bs : List ℕ) → Bytes bs → littleEndian bs < 256 ^ length bs
+little-lt [] none = omega arith
+little-lt (b ∷ bs) (one h rest) = let below = little-lt bs rest in rw pow-suc (omega arith)
+
+pub bytes-take : (n : ℕ) (bs : List ℕ) → Bytes bs → Bytes (take n bs)
+bytes-take zero bs all = none
+bytes-take (suc n) [] all = none
+bytes-take (suc n) (b ∷ bs) (one h rest) = one h (bytes-take n bs rest)
+
+pub bytes-drop : (n : ℕ) (bs : List ℕ) → Bytes bs → Bytes (drop n bs)
+bytes-drop zero bs all = all
+bytes-drop (suc n) [] all = all
+bytes-drop (suc n) (b ∷ bs) (one h rest) = bytes-drop n bs rest
+
 -- what stores leave: their own places hold what was stored, the others what they held
 pub stored-there : (l vs : List ℕ) (at n : ℕ) → length vs ≡ n → at + n ≤ length l → take n (drop at (sets l at vs)) ≡ vs
 stored-there l vs at n e h =

@@ -32,7 +32,7 @@ use Rattle.writer.specs.declared.Verdict.the-variants.{Fit, Faulty}
 use Rattle.writer.specs.declared.WriteRefusal.the-variants.{BadSlot, Bad}
 use Rattle.writer.specs.declared.WriteAnswer.the-variants.{Refused, Written}
 use Rattle.writer.specs.Layouts.{wide, layoutOf, widthAt, readAt, fieldsOf}
-use Rattle.writer.specs.Writing.{asked, entries, encoded, whole, split, readBack, isAbsent, lacks, fits, judged, slotSize, withCommand, write}
+use Rattle.writer.specs.Writing.{asked, entries, encoded, whole, split, readBack, isAbsent, lacks, fits, judged, slotSize, withCommand, byVerdict, write}
 use Rattle.writer.proofs.ByCode.{whole-split}
 use Rattle.writer.proofs.Reading.{reads, read-fits}
 use Rattle.writer.proofs.Lines.{says, is-sound}
@@ -152,3 +152,24 @@ module _ (f : Features) (d slot : List ℕ) where
     pub writes : (x : Coded) (l : List ℕ) → v ≡ Fit x → l ≡ withCommand slot 0 x → Gives (write f d slot) l Written
     unfolding write
     writes x l e leaves = gives (rw (eq-eqb (length slot) slotSize long, ← said, e, leaves))
+
+pub writing : (f : Features) (d slot : List ℕ) (x : Coded) → length slot ≡ slotSize → judged f d ≡ Fit x → write f d slot ≡ with Written (withCommand slot 0 x)
+unfolding write
+writing f d slot x long e = rw (eq-eqb (length slot) slotSize long, e)
+
+-- written only where the slot is one and the command fits
+pub record Wrote (f : Features) (d slot : List ℕ) : Type 0 where
+  pub long : length slot ≡ slotSize
+  pub coded : Coded
+  pub fit : judged f d ≡ Fit coded
+  pub leaves : write f d slot .memory ≡ withCommand slot 0 coded
+
+pub wrote : (f : Features) (d slot : List ℕ) → write f d slot .answer ≡ Written → Wrote f d slot
+unfolding write
+wrote f d slot e = by-tests (eqb (length slot) slotSize) (judged f d) refl refl e
+  where
+    by-tests : (b : Bool) (v : Verdict) → eqb (length slot) slotSize ≡ b → judged f d ≡ v
+        → pick (not b) (with (Refused BadSlot) slot) (byVerdict slot v) .answer ≡ Written → Wrote f d slot
+    by-tests false v p q w = let z : _≡_ {A = ℕ} 0 1 = cc in absurd (omega arith)
+    by-tests true (Faulty why) p q w = let z : _≡_ {A = ℕ} 0 1 = cc in absurd (omega arith)
+    by-tests true (Fit x) p q w = record { long = eqb-true (length slot) slotSize p; coded = x; fit = q; leaves = rw (p, q) }

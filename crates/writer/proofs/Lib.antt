@@ -3,3 +3,5 @@ pub mod Asking
 pub mod Reading
 pub mod Lines
 pub mod Judging
+pub mod RoundTrip
+pub mod Slots
