@@ -195,7 +195,6 @@ none-pass-count p (suc n) f = rw (f n (omega arith), none-pass-count p n (λ j h
 
 -- what holds of each of some keys holds of a number that has a place among them
 infixr 20 _also_
-
 pub data Each (P : ℕ → Type 0) : List ℕ → Type 0 where
   done : Each P []
   _also_ : {k : ℕ} {ks : List ℕ} → P k → Each P ks → Each P (k ∷ ks)
