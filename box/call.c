@@ -114,11 +114,11 @@ static void any_write(struct dice *dice, const struct input *input, struct call 
     if (call->which == WRITE_COMMAND) count = 1;
     else if (few && count > 6) count %= 6;
     any_commands(dice, input->features, count, call->which == WRITE_COMMAND ? 2 : 2 * count + 1, commands);
-    uint64_t part = below(dice, 16), length = below(dice, 48);
+    uint64_t part = below(dice, 16), length = below(dice, 48), whole = input->bytes / 16; /* the only slot may be damaged */
     call->commands = commands;
     call->command_words = COMMAND_WORDS * count + (part ? 0 : length % COMMAND_WORDS);
-    call->row = below(dice, most);
-    call->argument = below(dice, 8) ? 16 : length;
+    call->row = below(dice, whole ? whole : 1);
+    call->argument = !whole ? input->bytes : below(dice, 8) ? 16 : length;
 }
 
 void any_call(struct dice *dice, const struct input *input, enum which which, struct call *call) {

@@ -140,7 +140,7 @@ static void store_batch(const struct batch *batch, const uint64_t *commands) {
     put_batch(batch, batch->count);
     write_back(batch);
     if (fault("batch-next-slot")) touch(batch->queue + SLOT * ((batch->first + batch->count) % batch->slots));
-    if (fault("batch-beyond")) touch(batch->queue + SLOT * batch->slots);
+    if (fault("batch-beyond")) *(volatile uint8_t *)(batch->queue + SLOT * batch->slots) = 0;
     if (fault("batch-row")) store(batch->kept, batch->words - 1, batch->kept[batch->words - 1]);
     if (fault("batch-commands")) *(volatile uint64_t *)(uintptr_t)commands = commands[0];
     if (fault("batch-rings-first") || (fault("batch-rings-each") && batch->count)) return;
