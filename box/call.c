@@ -34,7 +34,8 @@ void make_call(const struct call *call, const struct input *input, uint64_t *kep
         returned = tahvenno_table_fill(kept, words, table, table_words, call->row, call->w[0], call->w[1], call->allowance, answer);
         break;
     case WRITE_COMMAND:
-        returned = tahvenno_write_command((uint8_t *)queue + 16 * call->row, call->argument, call->commands, input->features, answer);
+        returned = tahvenno_write_command((uint8_t *)queue + 16 * call->row, call->argument, call->commands, input->features,
+                                          answer);
         break;
     case WRITE_BATCH:
         returned = tahvenno_write_batch(kept, words, (uint8_t *)queue, input->bytes, call->commands, call->command_words,

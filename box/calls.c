@@ -1,9 +1,9 @@
 /* calls [SEED [COUNT]]: pseudo-random calls of the unit, and what comes of them as numbers that can be compared between machines.
  *
  * Accepted images and recorders, several calls in a row on each, and damaged ones; every call. Prints a hash over every number
- * returned, every answer, every word of kept memory and of the second table and every byte of a queue that is written, now and then
- * while it goes on, and how often each call gave each number and each end. Ends with 1 where a refusal or an end never came up, or a
- * call wrote beside its memory. */
+ * returned, every answer, every word of kept memory and of the second table and every byte of a queue that is written, now and
+ * then while it goes on, and how often each call gave each number and each end. Ends with 1 where a refusal or an end never came
+ * up, or a call wrote beside its memory. */
 #include <inttypes.h>
 #include <stdio.h>
 #include <stdlib.h>
@@ -34,7 +34,7 @@ static void stop(const char *why, enum which which) {
 /* Makes a call, of the writers on a queue with marked bytes on both sides of it, and takes what it left there. */
 static void call_on_queue(const struct call *call, struct input *input, uint64_t *kept, struct outcome *outcome) {
     static uint8_t memory[16 + QUEUE_ROOM + 16], *const queue = memory + 16;
-    static const uint8_t mark[16] = {0x5A, 0xFE, 0x5A, 0xFE, 0x5A, 0xFE, 0x5A, 0xFE, 0x5A, 0xFE, 0x5A, 0xFE, 0x5A, 0xFE, 0x5A, 0xFE};
+    static const uint8_t mark[16] = {0x5A, 0xFE, 0x5A, 0xFE, 0x5A, 0xFE, 0x5A, 0xFE};
     if (call->which != WRITE_COMMAND && call->which != WRITE_BATCH) {
         make_call(call, input, kept, input->queue, outcome);
         return;

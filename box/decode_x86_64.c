@@ -51,7 +51,8 @@ const unsigned char *instruction_at(void *context) {
 }
 
 /* A `mov` from its opcode on: how many bytes the instruction takes from there, or 0 if it is none. */
-static size_t general(const ucontext_t *context, const unsigned char *code, unsigned prefix, unsigned rex, struct decoded *decoded) {
+static size_t general(const ucontext_t *context, const unsigned char *code, unsigned prefix, unsigned rex,
+                      struct decoded *decoded) {
     unsigned opcode = code[0], number = (code[1] >> 3 & 7) | (rex & REX_R ? 8 : 0);
     uint64_t value;
     if (opcode != MOV_BYTE && opcode != MOV_REGISTER && opcode != MOV_BYTE_CONSTANT && opcode != MOV_CONSTANT) return 0;

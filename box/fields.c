@@ -119,7 +119,8 @@ static void spoil_range(struct dice *dice, uint64_t *fields) {
 }
 
 uint64_t spoilt_fields(struct dice *dice, uint64_t features, uint64_t fields[FIELDS]) {
-    static const uint64_t unknown[] = {0x00, 0x07, 0x0F, 0x14, 0x18, 0x24, 0x29, 0x2B, 0x31, 0x40, 0x41, 0x45, 0x47, 0x71, 0x74, 0xFF};
+    static const uint64_t unknown[] = {0x00, 0x07, 0x0F, 0x14, 0x18, 0x24, 0x29, 0x2B,
+                                       0x31, 0x40, 0x41, 0x45, 0x47, 0x71, 0x74, 0xFF};
     any_fields(dice, features, fields);
     uint64_t kind = below(dice, 7), field = 1 + below(dice, FIELDS - 1);
     const struct format *format = &FORMATS[code_place(fields[CODE])];

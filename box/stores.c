@@ -408,8 +408,8 @@ static uint64_t control_after(const struct call *call, uint64_t control) {
     return call->argument ? control | CMDQEN : control & ~CMDQEN;
 }
 
-/* Every call but runs, fills of either table and writers, of accepted images: one control store if it is carried out, none if it is refused
- * or only reads. */
+/* Every call but runs, fills of either table and writers, of accepted images: one control store if it is carried out, none if it
+ * is refused or only reads. */
 static void check_others(struct dice *dice, int rounds) {
     static struct input input;
     struct call call;

@@ -1,9 +1,9 @@
 /* The writers of commands (document 02, T-10), watched like the other calls (stores.c).
  *
- * A command's 16 bytes may come by stores of any number, size and order, but each lies in the slots that are to be written. Those of
- * a batch all come before the one store of the control word, and that one is plain and of 64 bits, also where no command is given.
- * In the end the slots hold the commands' bytes, which are put together here by the layout of the papers, and every other byte and
- * word is as it was. A call that is refused stores nothing. */
+ * A command's 16 bytes may come by stores of any number, size and order, but each lies in the slots that are to be written. Those
+ * of a batch all come before the one store of the control word, and that one is plain and of 64 bits, also where no command is
+ * given. In the end the slots hold the commands' bytes, which are put together here by the layout of the papers, and every other
+ * byte and word is as it was. A call that is refused stores nothing. */
 #include <inttypes.h>
 #include <stdio.h>
 #include <string.h>
@@ -76,7 +76,8 @@ static void compare_left(const char *name, const struct input *input, const stru
                          const uint64_t *kept, const uint8_t *queue) {
     if (outcome->returned != due->outcome.returned)
         fail("%s: returned %" PRIu64 ", and should %" PRIu64, name, outcome->returned, due->outcome.returned);
-    if (memcmp(outcome, &due->outcome, sizeof *outcome)) fail("%s: another answer, which begins %" PRIu64, name, outcome->answer[0]);
+    if (memcmp(outcome, &due->outcome, sizeof *outcome))
+        fail("%s: another answer, which begins %" PRIu64, name, outcome->answer[0]);
     for (size_t i = 0; i < input->bytes; i++)
         if (queue[i] != due->queue[i])
             fail("%s: byte %zu of the queue is %02x, and should be %02x", name, i, (unsigned)queue[i], (unsigned)due->queue[i]);
@@ -85,7 +86,7 @@ static void compare_left(const char *name, const struct input *input, const stru
     if (memcmp(kept + TABLE_AT, input->kept + TABLE_AT, 8 * input->table_words)) fail("%s: another second table", name);
 }
 
-/* Makes a call on watched memory, at both alignments, and then on plain memory: first where it can be seen what a wrong one does. */
+/* Makes a call on watched memory, at both alignments, and then on plain memory: first where what a wrong one does is seen. */
 static void check_write(const struct input *input, const struct call *call, const struct due *due) {
     const char *name = CALL_NAMES[call->which];
     static uint64_t plain[BOTH];
