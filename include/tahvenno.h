@@ -155,8 +155,9 @@
  *
  * write_batch has no allowance. It stores every byte of its commands before the control word, in single stores of any size, and to
  * no other slot. So if power goes inside it, the queue, where it survives, holds a part of them in free slots, of which no run
- * knows; call it again from the start. A batch that was refused has written nothing. A batch of no commands stores the control word
- * as it is. Repeated after it has finished, a batch is there twice, or is refused with 22: WR tells whether it was finished.
+ * knows; call it again from the start. docs/BOX.md has what to do where the bytes could arrive after the control word. A batch that
+ * was refused has written nothing. A batch of no commands stores the control word as it is. Repeated after it has finished, a batch
+ * is there twice, or is refused with 22: WR tells whether it was finished.
  *
  * THE RECORDER is a ring of records of 32 bytes, in words of its own; no call takes both these and the kept memory. event_write
  * makes 5 stores: the record's four words, the first one first, to the slot at WR, then the index word with WR one further. Until
