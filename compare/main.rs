@@ -86,6 +86,8 @@ fn compare(seed: u64, wrong: Option<Wrong>) -> ExitCode {
     phases::ranges::cases::cases(&mut checker);
     phases::regions::cases::cases(&mut checker);
     phases::events::cases::cases(&mut checker);
+    phases::writer::cases::cases(&mut checker);
+    phases::writer::writer(&mut checker);
     phases::regions::regions(&mut checker);
     phases::hyp::hyp(&mut checker);
     phases::events::events(&mut checker);

@@ -317,6 +317,7 @@ fn without_last(call: Call, kept: &mut Memory, answer: &mut Lent) -> u64 {
     let number = unit::perform(call, &mut copy, answer);
     kept.inner_mut()[..last].copy_from_slice(&copy.inner()[..last]);
     kept.table_mut().copy_from_slice(copy.table());
+    kept.bytes_mut().copy_from_slice(copy.bytes());
     number
 }
 
