@@ -18,6 +18,10 @@
 //! difference, after printing what is needed to repeat it, or if the unit doesn't
 //! return; 2 if a kind never occurred or the arguments make no sense.
 //!
+//! `compare.out linux FILE FEATURES` takes the commands that a guest sent, 16 bytes each,
+//! has the model read and the unit write them (linux.rs), and exits 0 if they came back
+//! byte for byte, but for bits that aren't looked at.
+//!
 //! `compare.out wrong NAME` compares a wrong unit (wrong.rs) instead and has to
 //! exit 1; `compare.out wrong` does so for all of them and exits 0 if each was
 //! caught.
@@ -30,6 +34,7 @@ mod interface;
 mod laws;
 mod lent;
 mod limits;
+mod linux;
 mod model;
 mod modelled;
 mod phases;
@@ -58,6 +63,11 @@ fn main() -> ExitCode {
     if arguments == ["wrong"] {
         return ExitCode::from(u8::from(!wrong::all_caught()));
     }
+    if let ["linux", file, features] = arguments[..] {
+        if let Some(features) = number(features) {
+            return linux::written_back(file, features);
+        }
+    }
     let named = |name: &str| wrong::all().into_iter().find(|wrong| wrong.name == name);
     let asked = match arguments[..] {
         [] => Some((DEFAULT_SEED, None)),
@@ -66,7 +76,7 @@ fn main() -> ExitCode {
         _ => None,
     };
     let Some((seed, wrong)) = asked else {
-        eprintln!("usage: compare [seed] | compare wrong [name]");
+        eprintln!("usage: compare [seed] | compare linux file features | compare wrong [name]");
         return ExitCode::from(2);
     };
     compare(seed, wrong)
@@ -87,7 +97,6 @@ fn compare(seed: u64, wrong: Option<Wrong>) -> ExitCode {
     phases::regions::cases::cases(&mut checker);
     phases::events::cases::cases(&mut checker);
     phases::writer::cases::cases(&mut checker);
-    phases::writer::writer(&mut checker);
     phases::regions::regions(&mut checker);
     phases::hyp::hyp(&mut checker);
     phases::events::events(&mut checker);
@@ -97,6 +106,7 @@ fn compare(seed: u64, wrong: Option<Wrong>) -> ExitCode {
     phases::upper::upper(&mut checker);
     phases::doubles::doubles(&mut checker);
     phases::ranges::ranges(&mut checker);
+    phases::writer::writer(&mut checker);
     phases::commands::sweeps(&mut checker);
     phases::formats::sweeps(&mut checker);
     phases::controls::sweeps(&mut checker);

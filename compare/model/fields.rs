@@ -80,6 +80,16 @@ pub fn places(code: u64) -> Option<&'static [Place]> {
     })
 }
 
+/// The bits of a command that are looked at: of 01 and 02 the code and bit 10, of 46 the
+/// code, CS and what is Reserved there, of others all.
+pub fn looked_at(code: u64) -> u128 {
+    match code {
+        0x01 | 0x02 => 0x4FF,
+        0x46 => 0xF03F_FFFF,
+        _ => u128::MAX,
+    }
+}
+
 fn ones((high, low): Bits) -> u64 {
     u64::MAX >> (63 + low - high)
 }

@@ -8,7 +8,7 @@ use crate::generate::fields::{fields, full};
 use crate::generate::ranges::reaching;
 use crate::generate::world::World;
 use crate::model::command::{decode, Features};
-use crate::model::fields::put;
+use crate::model::fields::{looked_at, put};
 
 pub fn sweeps(checker: &mut Checker) {
     checker.phase("writer: every bit of every command, read and written");
@@ -30,16 +30,6 @@ pub fn sweeps(checker: &mut Checker) {
             _ => of_code(&mut random, &world, CODES[round / 4 % CODES.len()]),
         };
         back(checker, reaching(read, 2), some);
-    }
-}
-
-/// The bits that are looked at: of 01 and 02 the code and bit 10, of 46 also CS and
-/// what is Reserved there.
-fn looked_at(code: u64) -> u128 {
-    match code {
-        0x01 | 0x02 => 0x4FF,
-        0x46 => 0xF03F_FFFF,
-        _ => u128::MAX,
     }
 }
 

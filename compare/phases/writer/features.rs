@@ -59,6 +59,9 @@ fn under(checker: &mut Checker, code: u64, features: u64) {
         features,
         number(21),
     );
+    for &field in own(code) {
+        one(checker, &with(code, &[(field, 1)]), features);
+    }
     // A known code but for a bit above: no feature is missing.
     gives(checker, &with(code | 1 << 8, &[]), features, 21);
 }

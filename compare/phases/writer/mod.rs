@@ -12,10 +12,12 @@ mod sequences;
 mod sizes;
 mod widths;
 
+use super::waiting;
 use crate::call::{Call, Reply};
 use crate::checker::Checker;
 use crate::generate::commands::{DPT, E2H, FOUR, HYP, RIL};
 use crate::generate::fields::{full, own};
+use crate::generate::images::with_rows;
 use crate::model::fields::{Fields, CODE, STREAM, VMID};
 
 /// Every feature.
@@ -47,10 +49,19 @@ fn batch(commands: &[u64], features: u64) -> Call<'_> {
     Call::WriteBatch { commands, features }
 }
 
-/// A command into a slot of 16 bytes: the answer, and the bytes as one number.
+const LAW: &str = "a batch of one command isn't that command";
+
+/// A command into a slot of 16 bytes: the answer, and the bytes as one number. A batch of
+/// it alone has to come to the same.
 fn one(checker: &mut Checker, fields: &Fields, features: u64) -> (Reply, u128) {
     let mut slot = [DIRT; 16];
     let reply = checker.write(&mut [], &mut slot, command(fields, features));
+    let before = with_rows(waiting(0, 0), &[[0; 4]]);
+    let (mut kept, mut queue) = (before.clone(), [DIRT; 16]);
+    let call = batch(fields, features);
+    let alone = checker.write(&mut kept, &mut queue, call);
+    let same = alone == reply && queue == slot;
+    checker.insist(same, LAW, &before, call, (alone, &kept));
     (reply, u128::from_le_bytes(slot))
 }
 
