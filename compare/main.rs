@@ -86,6 +86,7 @@ fn main() -> ExitCode {
 fn compare(seed: u64, wrong: Option<Wrong>) -> ExitCode {
     println!("seed {seed:#x}");
     watchdog::start(seed);
+    let writes = wrong.as_ref().is_some_and(Wrong::writes);
     let mut checker = Checker::new(seed, wrong);
     phases::cases::cases(&mut checker);
     phases::reasons::cases::cases(&mut checker);
@@ -97,6 +98,11 @@ fn compare(seed: u64, wrong: Option<Wrong>) -> ExitCode {
     phases::regions::cases::cases(&mut checker);
     phases::events::cases::cases(&mut checker);
     phases::writer::cases::cases(&mut checker);
+    // No other wrong unit is caught by these, so that they come first for none but a
+    // wrong writer.
+    if writes {
+        phases::writer::writer(&mut checker);
+    }
     phases::regions::regions(&mut checker);
     phases::hyp::hyp(&mut checker);
     phases::events::events(&mut checker);
@@ -106,7 +112,9 @@ fn compare(seed: u64, wrong: Option<Wrong>) -> ExitCode {
     phases::upper::upper(&mut checker);
     phases::doubles::doubles(&mut checker);
     phases::ranges::ranges(&mut checker);
-    phases::writer::writer(&mut checker);
+    if !writes {
+        phases::writer::writer(&mut checker);
+    }
     phases::commands::sweeps(&mut checker);
     phases::formats::sweeps(&mut checker);
     phases::controls::sweeps(&mut checker);
