@@ -3,7 +3,7 @@
 
 use crate::call::{Call, Reply};
 use crate::model::command::{decode, Features};
-use crate::model::fields::{self, Fields};
+use crate::model::fields::*;
 
 /// The law that a call broke, if any; `written` are the slot or the queue before and
 /// after it.
@@ -32,22 +32,30 @@ pub fn broken(
 /// Every field at its place. Those that a command doesn't have are 0, so that one sum
 /// does for all of them; None if it is more than the two words hold.
 fn sum(fields: &Fields) -> Option<u128> {
-    let [code, stream, substream, range, leaf, vmid, asid, address, cs, num, scale, tg, ttl, ttl128, size, none] =
-        fields.map(u128::from);
-    let low = code
-        | (substream | cs | num) << 12
-        | scale << 20
-        | (stream | vmid) << 32
-        | asid << 48
-        | none << 64;
-    let high = leaf | range | ttl128 << 7 | (ttl | size) << 8 | tg << 10 | address << 12;
-    (low >> 64 == 0 && high >> 64 == 0).then_some(high << 64 | low)
+    let at = |field: usize, low: u32| u128::from(fields[field]) << low;
+    let low = at(CODE, 0)
+        | at(SUBSTREAM, 12)
+        | at(CS, 12)
+        | at(NUM, 12)
+        | at(SCALE, 20)
+        | at(STREAM, 32)
+        | at(VMID, 32)
+        | at(ASID, 48);
+    let high = at(LEAF, 0)
+        | at(RANGE, 0)
+        | at(TTL128, 7)
+        | at(TTL, 8)
+        | at(SIZE, 8)
+        | at(TG, 10)
+        | at(ADDRESS, 12);
+    let whole = low >> 64 == 0 && high >> 64 == 0 && fields[15] == 0;
+    whole.then_some(high << 64 | low)
 }
 
 /// The legal command that reads as these fields, if there is one.
 fn legal(fields: &Fields, features: u64) -> Option<u128> {
     let command = sum(fields)?;
-    let same = fields::read(command).as_ref() == Some(fields);
+    let same = read(command).as_ref() == Some(fields);
     let (low, high) = (command as u64, (command >> 64) as u64);
     let legal = same && decode(low, high, Features::from_bits(features)).is_ok();
     legal.then_some(command)
@@ -109,16 +117,18 @@ fn batch(
     if reply.number > 0 && reply.number < 20 {
         return None;
     }
-    let mut own = commands.chunks(16).map(|words| match words.try_into() {
+    let own = commands.chunks(16).map(|words| match words.try_into() {
         Ok(fields) => due(fields, features),
         Err(_) => 21,
     });
-    let first = own.position(|number| number != 0);
+    let mut own = own.enumerate();
+    let first = own.find(|&(_, number)| number != 0);
     if matches!(reply.number, 20 | 21) != first.is_some() {
         return Some("20 or 21 without a bad command, or none with one");
     }
-    if first.is_some_and(|first| first as u64 != reply.answer[0]) {
-        return Some("20 or 21 isn't of the first bad command");
+    let told = (reply.answer[0], reply.number);
+    if first.is_some_and(|(place, number)| (place as u64, number) != told) {
+        return Some("20 or 21 isn't that of the first bad command");
     }
     let (rd, wr, log2size) = indexes(before[0]);
     let (slots, count) = (1u64 << log2size, commands.len() as u64 / 16);

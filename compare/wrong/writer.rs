@@ -1,9 +1,14 @@
 //! Wrong units that write commands and batches otherwise (document 02, T-10).
 
-mod batches;
 mod bytes;
 mod fields;
-mod refusals;
+mod made;
+mod orders;
+mod parts;
+mod places;
+mod refused;
+mod room;
+mod rung;
 mod slots;
 mod told;
 
@@ -14,7 +19,7 @@ use crate::lent::{Lent, Memory};
 use crate::model::control::Control;
 use crate::model::fields::{Fields, CODE};
 use crate::unit;
-use batches::Made;
+use made::Made;
 
 #[derive(Clone, Copy)]
 pub enum Fault {
@@ -75,9 +80,10 @@ pub fn all() -> Vec<(String, Fault)> {
     let slots = slots::ALL
         .iter()
         .map(|&(name, made)| (name, Fault::Slot(made)));
-    let made = batches::all().chain(refusals::all());
+    let made = places::all().chain(rung::all()).chain(orders::all());
+    let made = made.chain(room::ROOM).chain(refused::STORES);
     let made = made.map(|(name, made)| (name, Fault::Batch(made)));
-    let words = refusals::WORDS.map(|(name, seen)| (name, Fault::Words(seen)));
+    let words = room::WORDS.map(|(name, seen)| (name, Fault::Words(seen)));
     let others = slots.chain(made).chain(words);
     all.extend(others.map(|(name, fault)| (format!("writer: {name}"), fault)));
     all

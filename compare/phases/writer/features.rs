@@ -1,6 +1,6 @@
 //! Every combination of the features: 20 before 21, and what is legal without one.
 
-use super::{gives, one};
+use super::{gives, one, ALL};
 use crate::checker::Checker;
 use crate::generate::commands::{combinations, CODES, DPT, E2H, HYP, RIL};
 use crate::generate::fields::{full, own, with, NONE};
@@ -17,6 +17,15 @@ pub fn sweeps(checker: &mut Checker) {
         for features in combinations() {
             for setting in [0, 1 << 8, 1 << 63] {
                 under(checker, code, features | setting);
+            }
+        }
+    }
+    checker.phase("writer: every bit of the features");
+    for code in CODES {
+        for features in [0, ALL] {
+            for bit in 0..64 {
+                one(checker, &full(code), features ^ 1 << bit);
+                one(checker, &with(code, &[]), features ^ 1 << bit);
             }
         }
     }

@@ -28,6 +28,9 @@ pub fn sweeps(checker: &mut Checker) {
     for log2size in SMALL + 1..=LOG2SIZE {
         around(checker, log2size);
     }
+    // More than 16 bits count.
+    into(checker, from(0, 0, 0), (1 << 16) + 1);
+    into(checker, from(LOG2SIZE, 5, 0), 1 << 16);
     checker.phase("writer: batches whatever the queue's state");
     for log2size in [0, 1, 4, LOG2SIZE] {
         states(checker, log2size);

@@ -1,39 +1,36 @@
 //! Commands whose bytes are others than those that were named.
 
-use super::{Named, Single};
+use super::{parts, Named, Single};
 use crate::generate::commands::RANGED;
 use crate::generate::fields::own;
 use crate::model::fields::*;
 
-type Made = fn(&Named, u128, u128) -> u128;
+pub type Made = fn(&Named, u128, u128) -> u128;
 
 pub fn all() -> impl Iterator<Item = (String, Single)> {
-    let all = ADDRESSES.iter().chain(PARTS).chain(WHOLE);
+    let all = ADDRESSES.iter().chain(parts::PARTS).chain(WHOLE);
     all.map(|&(name, made)| (name.into(), Single::Bytes(made)))
 }
 
-const STREAMS: [u64; 4] = [0x03, 0x04, 0x05, 0x06];
-const LEAVES: [u64; 8] = [0x03, 0x05, 0x12, 0x13, 0x22, 0x23, 0x2A, 0x73];
-
 /// The bits from `high` to `low`.
-fn ones(high: u32, low: u32) -> u128 {
+pub fn ones(high: u32, low: u32) -> u128 {
     u128::MAX >> (127 + low - high) << low
 }
 
 /// The command without those bits.
-fn without(new: u128, high: u32, low: u32) -> u128 {
+pub fn without(new: u128, high: u32, low: u32) -> u128 {
     new & !ones(high, low)
 }
 
 /// Those bits moved up, or down, within the word.
-fn moved(new: u128, (high, low): (u32, u32), by: i32) -> u128 {
+pub fn moved(new: u128, (high, low): (u32, u32), by: i32) -> u128 {
     let part = new & ones(high, low);
     let part = if by < 0 { part >> -by } else { part << by };
     without(new, high, low) | part
 }
 
 /// A field as a number of bits from `low` on.
-fn at(named: &Named, field: usize, low: u32) -> u128 {
+pub fn at(named: &Named, field: usize, low: u32) -> u128 {
     u128::from(named.fields[field]) << low
 }
 
@@ -115,203 +112,6 @@ const ADDRESSES: &[(&str, Made)] = &[
             (true, _) => new | ones(127, 116),
             _ => new,
         }
-    }),
-];
-
-const PARTS: &[(&str, Made)] = &[
-    ("Leaf dropped", |named, _, new| match named.of(&LEAVES) {
-        true => without(new, 64, 64),
-        false => new,
-    }),
-    ("Leaf of 73 dropped", |named, _, new| {
-        match named.of(&[0x73]) {
-            true => without(new, 64, 64),
-            false => new,
-        }
-    }),
-    ("Leaf always set", |named, _, new| match named.of(&LEAVES) {
-        true => new | 1 << 64,
-        false => new,
-    }),
-    ("Leaf turned round", |named, _, new| {
-        match named.of(&LEAVES) {
-            true => new ^ 1 << 64,
-            false => new,
-        }
-    }),
-    ("SCALE in TG's place", |named, _, new| {
-        match named.of(&RANGED) {
-            true => without(new, 75, 74) | at(named, SCALE, 74) & ones(75, 74),
-            false => new,
-        }
-    }),
-    ("NUM and SCALE exchanged", |named, _, new| {
-        match named.of(&RANGED) {
-            true => without(new, 24, 12) | at(named, SCALE, 12) | at(named, NUM, 20),
-            false => new,
-        }
-    }),
-    ("TG and TTL exchanged", |named, _, new| {
-        match named.of(&RANGED) {
-            true => without(new, 75, 72) | at(named, TG, 72) | at(named, TTL, 74),
-            false => new,
-        }
-    }),
-    ("SCALE a bit too high", |named, _, new| {
-        match named.of(&RANGED) {
-            true => moved(new, (24, 20), 1),
-            false => new,
-        }
-    }),
-    ("SCALE of four bits", |named, _, new| {
-        match named.of(&RANGED) {
-            true => without(new, 24, 24),
-            false => new,
-        }
-    }),
-    ("NUM of four bits", |named, _, new| {
-        match named.of(&RANGED) {
-            true => without(new, 16, 16),
-            false => new,
-        }
-    }),
-    ("NUM plus one", |named, _, new| {
-        match (named.fields[TG], named.fields[NUM]) {
-            (1.., 0..31) => new + (1 << 12),
-            _ => new,
-        }
-    }),
-    ("TTL dropped", |named, _, new| match named.of(&RANGED) {
-        true => without(new, 73, 72),
-        false => new,
-    }),
-    ("TTL128 dropped", |named, _, new| match named.of(&RANGED) {
-        true => without(new, 71, 71),
-        false => new,
-    }),
-    ("TTL128 at bit 70", |named, _, new| {
-        match named.of(&RANGED) {
-            true => moved(new, (71, 71), -1),
-            false => new,
-        }
-    }),
-    ("TG dropped", |named, _, new| match named.of(&RANGED) {
-        true => without(new, 75, 74),
-        false => new,
-    }),
-    ("TG less one", |named, _, new| match named.fields[TG] {
-        2.. => new - (1 << 74),
-        _ => new,
-    }),
-    ("no range in 2A", |named, _, new| match named.of(&[0x2A]) {
-        true => without(without(new, 24, 12), 75, 71),
-        false => new,
-    }),
-    ("no range in 22 and 23", |named, _, new| {
-        match named.of(&[0x22, 0x23]) {
-            true => without(without(new, 24, 12), 75, 71),
-            false => new,
-        }
-    }),
-    ("VMID and ASID exchanged", |named, _, new| {
-        match named.of(&[0x11, 0x12]) {
-            true => without(new, 63, 32) | at(named, ASID, 32) | at(named, VMID, 48),
-            false => new,
-        }
-    }),
-    ("an ASID of 8 bits", |named, _, new| {
-        match own(named.code()).contains(&ASID) {
-            true => without(new, 63, 56),
-            false => new,
-        }
-    }),
-    (
-        "a VMID of 8 bits",
-        |named, _, new| match own(named.code()).contains(&VMID) {
-            true => without(new, 47, 40),
-            false => new,
-        },
-    ),
-    ("an ASID of 8 bits without ASID16", |named, _, new| {
-        match own(named.code()).contains(&ASID) && !named.has(1 << 2) {
-            true => without(new, 63, 56),
-            false => new,
-        }
-    }),
-    ("a VMID of 8 bits without VMID16", |named, _, new| {
-        match own(named.code()).contains(&VMID) && !named.has(1 << 3) {
-            true => without(new, 47, 40),
-            false => new,
-        }
-    }),
-    ("Range of four bits", |named, _, new| {
-        match named.of(&[0x04]) {
-            true => without(new, 68, 68),
-            false => new,
-        }
-    }),
-    ("Range plus one", |named, _, new| match named.code() {
-        0x04 => new + (1 << 64),
-        _ => new,
-    }),
-    ("a StreamID of 31 bits", |named, _, new| {
-        match named.of(&STREAMS) {
-            true => without(new, 63, 63),
-            false => new,
-        }
-    }),
-    ("a StreamID of 16 bits", |named, _, new| {
-        match named.of(&STREAMS) {
-            true => without(new, 63, 48),
-            false => new,
-        }
-    }),
-    (
-        "a StreamID of a block's start",
-        |named, _, new| match named.code() {
-            0x04 => {
-                let bits = named.fields[RANGE] as u32 + 1;
-                without(new, 31 + bits, 32)
-            }
-            _ => new,
-        },
-    ),
-    ("a SubstreamID of 19 bits", |named, _, new| {
-        match named.of(&[0x05]) {
-            true => without(new, 31, 31),
-            false => new,
-        }
-    }),
-    ("a SubstreamID a bit too low", |named, _, new| {
-        match named.of(&[0x05]) {
-            true => moved(new, (31, 12), -1),
-            false => new,
-        }
-    }),
-    (
-        "SSV set beside a SubstreamID",
-        |named, _, new| match named.fields[SUBSTREAM] {
-            0 => new,
-            _ => new | 1 << 11,
-        },
-    ),
-    ("CS 2 as CS 0", |named, _, new| match named.fields[CS] {
-        2 => without(new, 13, 12),
-        _ => new,
-    }),
-    ("CS 1 as CS 2", |named, _, new| match named.fields[CS] {
-        1 => new + (1 << 12),
-        _ => new,
-    }),
-    ("SIZE of three bits", |named, _, new| {
-        match named.of(&[0x73]) {
-            true => without(new, 75, 75),
-            false => new,
-        }
-    }),
-    ("SIZE up to 9", |named, _, new| match named.fields[SIZE] {
-        10.. => without(new, 75, 72) | 9 << 72,
-        _ => new,
     }),
 ];
 
