@@ -4,9 +4,9 @@
 //! `model/` is written from the papers alone, by their rules and without the
 //! unit's code. `generate/` makes inputs whose rows and commands collide
 //! often, `phases/` decides which calls are made, and every call is made on both
-//! sides: the returned number, the eight answer words and each word of the kept
-//! memory and of the second table have to be the same. At the end a table says what
-//! was compared.
+//! sides: the returned number, the eight answer words, each word of the kept
+//! memory and of the second table and each byte of a slot or queue that is written
+//! have to be the same. At the end a table says what was compared.
 //!
 //! Build, with LIB the folder that holds the unit's static library libNAME.a:
 //!

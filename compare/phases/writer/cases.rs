@@ -1,5 +1,5 @@
-//! Document 02's sentences about the writers, with fields, words and bytes written out;
-//! they hold the model to the papers as well as the unit.
+//! What document 02 asks of the writers, with fields, words and bytes written out; this
+//! holds the model to the papers as well as the unit.
 
 use super::{batch, command, DIRT};
 use crate::call::Reply;
@@ -176,7 +176,7 @@ fn written(checker: &mut Checker) {
     gives(checker, fields(0x10, &[]), S1P, 0x10, 0);
 }
 
-/// "20 if a feature is missing", before whatever else is wrong.
+/// A missing feature is told before whatever else is wrong.
 fn missing(checker: &mut Checker) {
     for (code, wanted) in [
         (0x05, S1P),
@@ -213,7 +213,7 @@ fn missing(checker: &mut Checker) {
     }
 }
 
-/// "21 if a field is too wide or would make the command illegal."
+/// Fields with too many bits, and those that no legal command has.
 fn unfit(checker: &mut Checker) {
     for (code, field, too_wide) in [
         (0x03, STREAM, 1 << 32),
@@ -268,7 +268,7 @@ fn unfit(checker: &mut Checker) {
     }
 }
 
-/// "19 if the slot isn't 16 bytes", before whatever else is wrong.
+/// A slot of another length is told before whatever else is wrong.
 fn slots(checker: &mut Checker) {
     let given = [
         fields(0x30, &[]),
@@ -309,7 +309,7 @@ fn expect(
 
 const OLD: [u64; 2] = [0xAAAA, 0xBBBB];
 
-/// "Several commands into free slots", then the doorbell.
+/// Commands go to the slots from WR on, and WR behind the last of them.
 fn batches(checker: &mut Checker) {
     let sync = fields(0x46, &[(CS, 1)]);
     let all = fields(0x30, &[]);
@@ -335,7 +335,8 @@ fn batches(checker: &mut Checker) {
     }
 }
 
-/// "It tries 1 to 4, then 20 and 21 for the first bad command, then 22".
+/// The memory and the queue are looked at first, then the commands in their order, then
+/// the room.
 fn batches_refused(checker: &mut Checker) {
     let (good, absent, bad) = (fields(0x30, &[]), fields(0x70, &[]), fields(0, &[]));
     let free = TWO;
