@@ -98,7 +98,7 @@ module _ (w n : ℕ) (formed : Formed w) (fits : n ≤ freeIn w) where
   abbrev d : ℕ
   d = control.distance w
 
-  together : d + n ≤ indexes.slots (control.log2size w)
+  pub together : control.distance w + n ≤ indexes.slots (control.log2size w)
   unfolding control.distance
   together = omega (arith, formed .waiting .apart)
 

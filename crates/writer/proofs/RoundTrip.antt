@@ -93,6 +93,10 @@ fits-means f d x e = by-tests (lacks f d) (fits d) (readBack f d) refl refl e
     by-tests false true (Illegal why) p q j = let z : _≡_ {A = ℕ} 0 1 = cc in absurd (omega arith)
     by-tests false true (Legal m) p q j = record { command = m; reads = q; fit = p; is-coded = cc }
 
+-- what is written is what the definition encodes
+pub coded-as : (f : Features) (d : List ℕ) (x : Coded) → judged f d ≡ Fit x → x ≡ split (encoded d)
+coded-as f d x e = fits-means f d x e .is-coded
+
 -- reading back: the same command, with the same fields
 pub record ReadsBack (f : Features) (d : List ℕ) (x : Coded) : Type 0 where
   pub command : Command
