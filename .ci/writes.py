@@ -1,11 +1,12 @@
-"""writes.py [DIR]: kept memory is assigned only where a single store is made.
+"""writes.py [DIR]: kept memory is assigned only where a single store is made, and bytes of a slot only where a word of them is.
 
 A contract sees a call's entry and exit, so it cannot tell a unit that works on a copy and writes it back. This check can. In
 the library crates below DIR (crates/):
 - an assignment to more than a local's name (an element, a field, what a reference leads to) is a store, and a function's text
   has just the stores that it has below;
 - a function that stores has no loop and lends nothing to change, so that nothing repeats its store within a call of it;
-- `&mut` stands only before a whole argument of a call, and a lent slice of words is only indexed, measured or handed on.
+- `&mut` stands only before a whole argument of a call, and a lent slice of words or bytes is only indexed, measured or handed
+  on.
 """
 import os
 import re
@@ -24,6 +25,9 @@ STORES = {
     ('event_calls', 'read'): 1,
     ('event_calls', 'acknowledge'): 1,
     ('region_fills', 'step'): 1,
+    ('batch_writes', 'ring'): 1,
+    # to the bytes of a slot: those of one word
+    ('words', 'store_at'): 8,
     # to other memory: the words of an answer, lent fields, an array of its caller's
     ('host', 'tell'): 1,
     ('registers', 'acknowledge'): 1,
@@ -103,7 +107,7 @@ def wrong(crate, text):
     found = []
     for name, params, body in functions(text):
         tokens = re.findall(TOKEN, body)
-        slices = re.findall(r'(\w+)\s*:\s*&(?:\'\w+\s+)?mut\s*\[u64\]', params)
+        slices = re.findall(r'(\w+)\s*:\s*&(?:\'\w+\s+)?mut\s*\[u(?:64|8)\]', params)
         lent = list(lends(slices, tokens))
         count, may = stores(tokens), STORES.get((crate, name), 0)
         if count != may:
