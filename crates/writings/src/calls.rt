@@ -43,14 +43,7 @@ pub fn call(verb: u8, w: [u64; 8], kept: &mut [u64], queue: &mut [u8], batch: &[
         show::slots(&*queue);
     } else {
         let mut table = [0u64; 2];
-        let code = host::tahvenno_run(
-            &mut *kept,
-            &mut table,
-            &*queue,
-            w[0],
-            w[1],
-            &mut answer,
-        );
+        let code = host::tahvenno_run(&mut *kept, &mut table, &*queue, w[0], w[1], &mut answer);
         show::run(code, answer);
         text::listed(b"; kept", &*kept);
     }

@@ -50,10 +50,7 @@ pub fn slot(room: &[u8; ROOM], bytes: usize) {
         if 32 < at {
             break;
         }
-        told(
-            b" $",
-            [words::word_at(room, at), 0, 0, 0, 0, 0, 0, 0],
-        );
+        told(b" $", [words::word_at(room, at), 0, 0, 0, 0, 0, 0, 0]);
         at += 8;
     }
     text::say(b"\n");
