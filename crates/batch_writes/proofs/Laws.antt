@@ -109,7 +109,7 @@ module _ (w n : ℕ) (formed : Formed w) (fits : n ≤ freeIn w) where
       let some : 0 < indexes.slots (control.log2size w) = pow-pos (control.log2size w) in
       indexed.distance-on (control.log2size w) (control.rd w) (control.wr w) n (omega (arith, together))
 
-  may : mayRing w v ≡ true
+  pub may : mayRing w ((control.wr w + n) % indexes.turn (control.log2size w)) ≡ true
   unfolding mayRing
   may =
       and-true
@@ -210,3 +210,10 @@ module _ (f : Features) (ws : List ℕ) (m : Lent) where
       by-way (rings r) =
           let formed = control-formed.formed x (a .control-formed) in
           rw (r .leaves) (control-stored (m .kept) n a (movedOn x (commandsIn ws)) (control-formed.is-formed (movedOn x (commandsIn ws)) (moved-formed x (commandsIn ws) formed (r .room))))
+
+  -- rung, every byte outside the slots written is as it was
+  pub others-stay : writeBatch f ws m .answer ≡ Rung → (k : ℕ)
+      → ((i : ℕ) → i < commandsIn ws → (k < slotSize * slotAt (controlOf (m .kept)) i) ⊎ (slotSize * slotAt (controlOf (m .kept)) i + slotSize ≤ k))
+      → getD (writeBatch f ws m .memory .queue) k 0 ≡ getD (m .queue) k 0
+  others-stay e k apart =
+      ap (λ (o : Outcome Lent BatchAnswer). getD (o .memory .queue) k 0) (rung-rings e .leaves) ∙ placed-others f ws x (m .queue) (commandsIn ws) k apart

@@ -33,15 +33,19 @@ use Rattle.runs.proofs.Calling.{goes-through}
 use Rattle.writer.specs.declared.Coded.{Coded}
 use Rattle.writer.specs.Layouts.{wide, fieldsOf}
 use Rattle.writer.specs.Writing.{encoded, split, slotSize}
-use Rattle.writer.proofs.RoundTrip.{ReadsBack, reads-back, coded-as}
+use Rattle.writer.proofs.RoundTrip.{reads-back, coded-as}
 use Rattle.batch_writes.specs.declared.BatchAnswer.{BatchAnswer}
 use Rattle.batch_writes.specs.declared.BatchAnswer.the-variants.{Rung}
 use Rattle.batch_writes.specs.Batch.{Lent, lent, wordsOf, commandsIn, slotAt, placed, movedOn, writeBatch}
 use Rattle.batch_writes.proofs.Judging.{each-fits}
 use Rattle.batch_writes.proofs.Placed.{slot-in, placed-length}
-use Rattle.batch_writes.proofs.Laws.{Rings, rung-rings, decodes-other, decodes-written, together, moved-keeps, moved-formed, moved-distance}
+use Rattle.control_calls.specs.declared.DoorbellAnswer.the-variants.{Rung as DidRing}
+use Rattle.control_calls.specs.Calls.{doorbell}
+use Rattle.control_calls.proofs.Cases.{doorbell-rings}
+use Rattle.image.proofs.Checks.{accepts}
+use Rattle.batch_writes.proofs.Laws.{Rings, rung-rings, decodes-other, decodes-written, together, may, moved-keeps, moved-formed, moved-distance}
 use Rattle.promises.specs.Found.{commandAt}
-use Rattle.promises.specs.Written.{AskedFor, ConsumesAll}
+use Rattle.promises.specs.Written.{AskedFor, ConsumesAll, RunsThrough}
 use Rattle.promises.proofs.Legal.{AllLegal, waiting-at, runs-empty}
 
 module _ (f : Features) (ws kept table queue : List ℕ) (n : ℕ) (rang : writeBatch f ws (lent kept queue) .answer ≡ Rung) (accepted : Accepts (both kept table) n) where
@@ -80,31 +84,31 @@ module _ (f : Features) (ws kept table queue : List ℕ) (n : ℕ) (rang : write
   unfolding spot
   turned t = indexed.slot-turn size (t + control.rd w) ∙ ap (indexes.slot size) (add-comm t (control.rd w))
 
-  before-at : (t : ℕ) → t < control.distance w → commandAt f queue w t ≡ decodeAt f queue (spot t)
-  before-at t h = waiting-at f queue t w (control-formed.is-formed w formed) h ∙ ap (decodeAt f queue) (turned t)
+  before-at : (g : Features) (t : ℕ) → t < control.distance w → commandAt g queue w t ≡ decodeAt g queue (spot t)
+  before-at g t h = waiting-at g queue t w (control-formed.is-formed w formed) h ∙ ap (decodeAt g queue) (turned t)
 
-  after-at : (t : ℕ) → t < control.distance w + many → commandAt f (after .queue) (controlOf (both (after .kept) table)) t ≡ decodeAt f (placed ws w queue many) (spot t)
-  after-at t h =
+  after-at : (g : Features) (t : ℕ) → t < control.distance w + many → commandAt g (after .queue) (controlOf (both (after .kept) table)) t ≡ decodeAt g (placed ws w queue many) (spot t)
+  after-at g t h =
       let v = movedOn w many in
       let same-size = moved-keeps w many formed (r .room) control.log2sizeBits tt in
       let same-rd = moved-keeps w many formed (r .room) control.rdBits tt in
       rw (new-queue, new-word)
-      (waiting-at f (placed ws w queue many) t v (control-formed.is-formed v (moved-formed w many formed (r .room))) (rw (moved-distance w many formed (r .room)) h)
-      ∙ ap (λ (s : ℕ). decodeAt f (placed ws w queue many) s) (rw (same-size, same-rd) (turned t)))
+      (waiting-at g (placed ws w queue many) t v (control-formed.is-formed v (moved-formed w many formed (r .room))) (rw (moved-distance w many formed (r .room)) h)
+      ∙ ap (λ (s : ℕ). decodeAt g (placed ws w queue many) s) (rw (same-size, same-rd) (turned t)))
 
   written-at : (i : ℕ) → slotAt w i ≡ spot (control.distance w + i)
   unfolding spot control.distance
   written-at i = indexed.slot-ahead size (control.rd w) (control.wr w) i
 
-  -- what waited still waits, in its order
-  pub still-waits : (t : ℕ) → t < control.distance w → commandAt f (after .queue) (controlOf (both (after .kept) table)) t ≡ commandAt f queue (controlOf (both kept table)) t
+  -- what waited still waits, in its order, whatever features it is decoded by
+  pub still-waits : (g : Features) (t : ℕ) → t < control.distance w → commandAt g (after .queue) (controlOf (both (after .kept) table)) t ≡ commandAt g queue (controlOf (both kept table)) t
   unfolding spot
-  still-waits t h =
+  still-waits g t h =
       let fits = together w many formed (r .room) in
-      after-at t (omega arith)
-      ∙ decodes-other f ws w queue (r .long) many (spot t) (indexed.slot-lt size (control.rd w + t))
+      after-at g t (omega arith)
+      ∙ decodes-other g ws w queue (r .long) many (spot t) (indexed.slot-lt size (control.rd w + t))
       (λ i l e. omega (arith, indexed.slots-differ size (control.rd w) t (control.distance w + i) (omega arith) (omega arith) (e ∙ written-at i)))
-      ∙ sym (before-at t h)
+      ∙ sym (before-at g t h)
 
   -- then exactly these
   pub then-these : (i : ℕ) → i < commandsIn ws → AskedFor ws i (commandAt f (after .queue) (controlOf (both (after .kept) table)) (control.distance (controlOf (both kept table)) + i))
@@ -115,10 +119,17 @@ module _ (f : Features) (ws kept table queue : List ℕ) (n : ℕ) (rang : write
       let same = coded-as f (wordsOf ws i) (a .coded) (a .fit) in
       record {
         command = b .command;
-        is-command = after-at (control.distance w + i) (omega arith) ∙ ap (decodeAt f (placed ws w queue many)) (sym (written-at i))
+        is-command = after-at f (control.distance w + i) (omega arith) ∙ ap (decodeAt f (placed ws w queue many)) (sym (written-at i))
             ∙ decodes-written f ws w queue (r .long) many i (omega arith) h ∙ ap (λ (c : Coded). decode f (c .lo) (c .hi)) (sym same) ∙ b .decodes;
         same-fields = b .same-fields;
       }
+
+  -- the control word is what the doorbell would have stored, which would not have refused it
+  pub rings-as-doorbell : doorbell kept ((control.wr w + many) % indexes.turn size) ≡ with DidRing (after .kept)
+  unfolding movedOn
+  rings-as-doorbell =
+      doorbell-rings kept (r .rows) ((control.wr w + many) % indexes.turn size) (accepts kept (r .rows) (r .accepted)) (may w many formed (r .room))
+      ∙ ap (with DidRing) (sym (ap (λ (o : Outcome Lent BatchAnswer). o .memory .kept) (r .leaves)))
 
   -- and a run consumes them all
   module _ (waits : AllLegal f queue (controlOf (both kept table))) (k : ℕ) (enough : usedRows (both kept table) n + (control.distance (controlOf (both kept table)) + commandsIn ws) ≤ k) where
@@ -138,7 +149,7 @@ module _ (f : Features) (ws kept table queue : List ℕ) (n : ℕ) (rang : write
           enabled = λ z. waits .enabled (sym (kept-part control.cmdqenBits tt) ∙ ap control.cmdqen (sym new-word) ∙ z);
           quiet = ap control.active new-word ∙ same-active w (movedOn w many) (kept-part control.gerrorBits tt) (kept-part control.gerrornBits tt) ∙ waits .quiet;
           legal = λ t h. ⊎-elim
-              (λ l. ap isIllegal (still-waits t l) ∙ waits .legal t l)
+              (λ l. ap isIllegal (still-waits f t l) ∙ waits .legal t l)
               (λ g. let i : control.distance w + (t - control.distance w) ≡ t = omega arith in
               rw i at (ap isIllegal (then-these (t - control.distance w) (omega (arith, far)) .is-command)))
               (less-or-not t (control.distance w));
@@ -158,3 +169,7 @@ module _ (f : Features) (ws kept table queue : List ℕ) (n : ℕ) (rang : write
           is-empty = ended .0;
           consumed = ended .1 ∙ far;
         }
+
+    -- all of it: writer, queue and run
+    pub runs-through : RunsThrough f ws queue (after .queue) (controlOf (both kept table)) (controlOf (both (after .kept) table)) (call f (after .queue) k (both (after .kept) table) .answer)
+    runs-through = record { waited = still-waits f; written = then-these; consumes = consumes-all }

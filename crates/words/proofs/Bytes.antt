@@ -9,7 +9,7 @@ use native.Mathlib.Omega.{arith}
 use lib.Arith.{lt-one}
 use lib.ListN.{length, getD, take, drop, set, length-set}
 use lib.Seq.{drop-cons, sets, length-sets, sets-eq, drop-at, take-at, length-take-le, getD-set-other}
-use Rattle.words.specs.Bytes.{littleEndian, wordAt, bytesOf, withWord}
+use Rattle.words.specs.Bytes.{littleEndian, wordAt, bytesOf, Bytes, none, one, withWord}
 
 -- the n elements from place at + k on, read one by one
 abbrev pub reading : ℕ → List ℕ → ℕ → ℕ → List ℕ
@@ -41,10 +41,6 @@ joined-bytes zero w h = sym (lt-one h)
 joined-bytes (suc n) w h =
     let low : w / 256 < 256 ^ n = div-lt-iff-lt-mul {k = 256} (omega arith) .1 (rw pow-suc at h) in
     rw (joined-bytes n (w / 256) low) (omega (arith, div-add-mod' w 256))
-
-pub data Bytes : List ℕ → Type 0 where
-  none : Bytes []
-  one : {b : ℕ} {bs : List ℕ} → b < 256 → Bytes bs → Bytes (b ∷ bs)
 
 pub taken-apart : (bs : List ℕ) → Bytes bs → bytesOf (length bs) (littleEndian bs) ≡ bs
 taken-apart [] none = refl

@@ -12,23 +12,26 @@ use Rattle.words.specs.Choice.{pick}
 use Rattle.words.specs.Outcomes.{Gives, with}
 use Rattle.words.specs.Parts.{joined}
 use Rattle.words.specs.Ranges.{all, width, get, puts}
+use Rattle.words.specs.Search.{placeOf}
 use Rattle.words.proofs.Outcomes.{gives}
 use Rattle.words.proofs.Truth.{same-test}
 use Rattle.words.proofs.Table.{all-at, at-all}
 use Rattle.commands.specs.declared.Features.{Features}
 use Rattle.commands.specs.declared.Command.{Command}
 use Rattle.commands.specs.declared.Reason.{Reason}
+use Rattle.commands.specs.declared.Reason.the-variants.{UnknownCode, FeatureAbsent, ReservedBit, BadParameter}
 use Rattle.commands.specs.declared.Decoded.{Decoded}
 use Rattle.commands.specs.declared.Decoded.the-variants.{Legal, Illegal}
-use Rattle.commands.specs.Formats.{codeBits}
-use Rattle.commands.specs.Decoding.{codeOf, knownCode, commandOf, isLegal, decode}
+use Rattle.commands.specs.Formats.{codeBits, codes, howMany}
+use Rattle.commands.specs.Decoding.{codeOf, knownCode, featurePresent, commandOf, isLegal, decode}
 use Rattle.commands.proofs.Legality.{Tests, legal-means}
-use Rattle.commands.proofs.Reasons.{tellsLegal, is-legal, legal}
+use Rattle.commands.proofs.Reasons.{tells, tellsLegal, feature-absent, is-legal, legal}
 use Rattle.writer.specs.declared.Coded.{Coded}
 use Rattle.writer.specs.declared.Fault.{Fault}
 use Rattle.writer.specs.declared.Fault.the-variants.{Missing, Unfit}
 use Rattle.writer.specs.declared.Verdict.{Verdict}
 use Rattle.writer.specs.declared.Verdict.the-variants.{Fit, Faulty}
+use Rattle.writer.specs.declared.WriteRefusal.{WriteRefusal}
 use Rattle.writer.specs.declared.WriteRefusal.the-variants.{BadSlot, Bad}
 use Rattle.writer.specs.declared.WriteAnswer.the-variants.{Refused, Written}
 use Rattle.writer.specs.Layouts.{wide, layoutOf, widthAt, readAt, fieldsOf}
@@ -173,3 +176,38 @@ wrote f d slot e = by-tests (eqb (length slot) slotSize) (judged f d) refl refl 
     by-tests false v p q w = let z : _≡_ {A = ℕ} 0 1 = cc in absurd (omega arith)
     by-tests true (Faulty why) p q w = let z : _≡_ {A = ℕ} 0 1 = cc in absurd (omega arith)
     by-tests true (Fit x) p q w = record { long = eqb-true (length slot) slotSize p; coded = x; fit = q; leaves = rw (p, q) }
+
+-- on a refusal nothing is written
+pub refusal-leaves : (f : Features) (d slot : List ℕ) (why : WriteRefusal) → write f d slot .answer ≡ Refused why → write f d slot .memory ≡ slot
+unfolding write
+refusal-leaves f d slot why e = by-tests (eqb (length slot) slotSize) (judged f d) e
+  where
+    by-tests : (b : Bool) (v : Verdict) → pick (not b) (with (Refused BadSlot) slot) (byVerdict slot v) .answer ≡ Refused why
+        → pick (not b) (with (Refused BadSlot) slot) (byVerdict slot v) .memory ≡ slot
+    by-tests false v w = refl
+    by-tests true (Faulty fault) w = refl
+    by-tests true (Fit x) w = let z : _≡_ {A = ℕ} 0 1 = cc in absurd (omega arith)
+
+-- 20 goes by the code alone: it is known, and what it needs is not there
+is-absent : (r : Decoded) → isAbsent r ≡ tells FeatureAbsent r
+is-absent (Legal m) = refl
+is-absent (Illegal UnknownCode) = refl
+is-absent (Illegal FeatureAbsent) = refl
+is-absent (Illegal ReservedBit) = refl
+is-absent (Illegal BadParameter) = refl
+
+pub lacks-by-code : (f : Features) (d : List ℕ)
+    → lacks f d ≡ (ltb (asked d 0) (2 ^ width codeBits) && (ltb (placeOf codes (asked d 0)) howMany && not (featurePresent f (asked d 0))))
+unfolding lacks readBack knownCode
+lacks-by-code f d = by-test (ltb (asked d 0) (2 ^ width codeBits)) refl
+  where
+    c : Coded
+    c = split (encoded d)
+
+    by-test : (b : Bool) → ltb (asked d 0) (2 ^ width codeBits) ≡ b
+        → (b && isAbsent (decode f (c .lo) (c .hi))) ≡ (b && (ltb (placeOf codes (asked d 0)) howMany && not (featurePresent f (asked d 0))))
+    by-test false e = refl
+    by-test true e =
+        let code : codeOf (joined (c .lo) (c .hi)) ≡ asked d 0 = ap codeOf (whole-split (encoded d)) ∙ field-back f d 0 (ltb-true (asked d 0) (2 ^ width codeBits) e) in
+        is-absent (decode f (c .lo) (c .hi)) ∙ feature-absent f (c .lo) (c .hi)
+        ∙ ap (λ (x : ℕ). ltb (placeOf codes x) howMany && not (featurePresent f x)) code

@@ -22,9 +22,10 @@ use Rattle.commands.specs.declared.Features.{Features}
 use Rattle.commands.specs.declared.Shape.{Shape}
 use Rattle.commands.specs.Formats.{codeBits, streamBits, substreamBits, rangeBits, leafBits, vmidBits, asidBits, pageBits, ipaPageBits, dptPageBits, csBits, sizeBits, ttl128Bits, isSetIn, targetOf, codes, howMany, namedAt}
 use Rattle.commands.specs.Decoding.{codeOf, placeIn, knownCode, commandOf}
-use Rattle.writer.specs.Layouts.{wide, Named, field, code, stream, substream, range, leaf, vmid, asid, page, ipaPage, dptPage, cs, size, rangedBy, bit, valueAt, asking, layouts, fieldsIn, keys, layoutOf, readAt, fieldsOf}
+use Rattle.writer.specs.Layouts.{wide, Named, field, code, stream, substream, range, leaf, vmid, asid, page, ipaPage, dptPage, cs, size, rangedBy, bit, valueAt, asking, layouts, fieldsIn, keys, layoutOf, ranges, readAt, fieldsOf}
+use Rattle.writer.specs.RoundTrip.{isBlind}
 use Rattle.writer.specs.Writing.{asked}
-use Rattle.writer.proofs.Reading.{spread-at, ranges, tidy, low, isIn, distinct}
+use Rattle.writer.proofs.Reading.{spread-at, tidy, low, isIn, distinct}
 
 -- a bit as a number is its part
 bit-back : (r : Range) (c : ℕ) → width r ≡ 1 → bit (isSetIn r c) ≡ get r c
@@ -202,9 +203,6 @@ is-sound x =
     }
 
 -- but for 01, 02 and 46, every bit that a code names is one of its fields'
-abbrev pub isBlind : ℕ → Bool
-isBlind x = eqb x 0x01 || eqb x 0x02 || eqb x 0x46
-
 abbrev oneOf : List Range → Range → Bool
 oneOf [] r = false
 oneOf (bits h l ∷ rs) (bits h′ l′) = (eqb h h′ && eqb l l′) || oneOf rs (bits h′ l′)

@@ -15,7 +15,7 @@ use Rattle.words.specs.Ranges.{Range, Field, get, set, width, puts}
 use Rattle.words.proofs.Truth.{T-left, T-right, clash, passed, left, right, or-left, or-right}
 use Rattle.words.proofs.Parts.{ordered, places, allApart, within, allWithin, part-lt, reads-back, puts-keep}
 use Rattle.words.proofs.Bits.{copies}
-use Rattle.writer.specs.Layouts.{Named, field, numberOf, bitsOf, widthAt, readAt, spread}
+use Rattle.writer.specs.Layouts.{Named, field, numberOf, bitsOf, ranges, widthAt, readAt, spread}
 use Rattle.writer.specs.Writing.{asked, entries}
 
 -- the sixteen words of a function are its values
@@ -23,9 +23,6 @@ pub spread-at : (g : ℕ → ℕ) (n i k : ℕ) → k < n → getD (spread g n i
 spread-at g zero i k h = absurd (omega arith)
 spread-at g (suc n) i zero h = ap g (sym (add-zero i))
 spread-at g (suc n) i (suc k) h = spread-at g n (suc i) k (omega arith) ∙ ap g (suc-add i k ∙ sym (add-suc i k))
-
-abbrev pub ranges : List Named → List Range
-ranges fs = map bitsOf fs
 
 entry-places : (fs : List Named) (d : List ℕ) → places (entries fs d) ≡ ranges fs
 entry-places [] d = refl

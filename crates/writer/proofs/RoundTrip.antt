@@ -33,11 +33,12 @@ use Rattle.writer.specs.declared.Coded.{Coded}
 use Rattle.writer.specs.declared.Fault.the-variants.{Missing, Unfit}
 use Rattle.writer.specs.declared.Verdict.{Verdict}
 use Rattle.writer.specs.declared.Verdict.the-variants.{Fit, Faulty}
-use Rattle.writer.specs.Layouts.{wide, layoutOf, widthAt, readAt, fieldsOf}
+use Rattle.writer.specs.Layouts.{wide, layoutOf, ranges, widthAt, readAt, fieldsOf}
+use Rattle.writer.specs.RoundTrip.{ReadsBack, isBlind}
 use Rattle.writer.specs.Writing.{asked, entries, encoded, whole, split, readBack, isAbsent, lacks, fits, judged}
 use Rattle.writer.proofs.ByCode.{whole-split, split-whole}
-use Rattle.writer.proofs.Reading.{ranges, read-fits, copied-entries, entries-low}
-use Rattle.writer.proofs.Lines.{says, is-sound, isBlind, looked-at}
+use Rattle.writer.proofs.Reading.{read-fits, copied-entries, entries-low}
+use Rattle.writer.proofs.Lines.{says, is-sound, looked-at}
 use Rattle.writer.proofs.Judging.{told, agree, same-fits}
 
 -- a command is sixteen words
@@ -98,13 +99,6 @@ pub coded-as : (f : Features) (d : List ℕ) (x : Coded) → judged f d ≡ Fit 
 coded-as f d x e = fits-means f d x e .is-coded
 
 -- reading back: the same command, with the same fields
-pub record ReadsBack (f : Features) (d : List ℕ) (x : Coded) : Type 0 where
-  pub command : Command
-  pub decodes : decode f (x .lo) (x .hi) ≡ Legal command
-  pub same-fields : fieldsOf command ≡ d
-  pub low-fits : x .lo < 2 ^ 64
-  pub high-fits : x .hi < 2 ^ 64
-
 pub reads-back : (f : Features) (d : List ℕ) (x : Coded) → length d ≡ wide → judged f d ≡ Fit x → ReadsBack f d x
 unfolding readBack
 reads-back f d x long e =

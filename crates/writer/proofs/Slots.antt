@@ -8,10 +8,12 @@ use Prim.Native.Nat.{ℕ, _+_, _*_, _^_, _≤_, _<_}
 use native.Mathlib.Omega.{arith}
 use lib.ListN.{length, getD, take, drop, length-drop, take-append-drop, drop-of-length-le}
 use lib.Seq.{sets, sets-eq, length-sets, take-all, length-take-le}
-use Rattle.words.specs.Bytes.{littleEndian, wordAt, bytesOf, withWord}
+use Rattle.words.specs.Bytes.{littleEndian, wordAt, bytesOf, Bytes, withWord}
 use Rattle.words.specs.Outcomes.{Outcome, with}
-use Rattle.words.specs.Parts.{joined}
-use Rattle.words.proofs.Bytes.{Bytes, bytes-take, bytes-drop, little-lt, taken-apart, stored-there, stored-length, stored-word, stored-others, kept-word}
+use Rattle.words.specs.Choice.{pick}
+use Rattle.words.specs.Parts.{isSet, joined}
+use Rattle.words.specs.Ranges.{named}
+use Rattle.words.proofs.Bytes.{bytes-take, bytes-drop, little-lt, taken-apart, stored-there, stored-length, stored-word, stored-others, kept-word}
 use Rattle.words.proofs.Truth.{less-or-not}
 use Rattle.commands.specs.declared.Features.{Features}
 use Rattle.commands.specs.declared.Command.{Command}
@@ -22,11 +24,12 @@ use Rattle.writer.specs.declared.Verdict.{Verdict}
 use Rattle.writer.specs.declared.Verdict.the-variants.{Fit, Faulty}
 use Rattle.writer.specs.declared.WriteAnswer.{WriteAnswer}
 use Rattle.writer.specs.declared.WriteAnswer.the-variants.{Refused, Written}
-use Rattle.writer.specs.Layouts.{wide, fieldsOf}
-use Rattle.writer.specs.Writing.{judged, slotSize, withCommand, write}
+use Rattle.writer.specs.Layouts.{wide, layoutOf, ranges, fieldsOf}
+use Rattle.writer.specs.RoundTrip.{SlotReadsBack, WritesAgain, isBlind}
+use Rattle.writer.specs.Writing.{encoded, split, judged, slotSize, withCommand, write}
+use Rattle.writer.proofs.ByCode.{whole-split}
 use Rattle.writer.proofs.Judging.{wrote, writing}
-use Rattle.writer.proofs.Lines.{isBlind}
-use Rattle.writer.proofs.RoundTrip.{ReadsBack, reads-back, writes-back}
+use Rattle.writer.proofs.RoundTrip.{low-lt, high-lt, reads-back, written-bit, writes-back, writes-again}
 
 module _ (l : List ℕ) (at : ℕ) (x : Coded) where
   abbrev half : List ℕ
@@ -109,11 +112,6 @@ module _ (bs slot : List ℕ) (all : Bytes bs) (long : length bs ≡ slotSize) (
       ∙ ap₂ (λ (y z : List ℕ). y ++ z) first-half second-half ∙ take-append-drop 8 bs
 
 -- reading back, of bytes: what lies in the slot is the command that was asked for
-pub record SlotReadsBack (f : Features) (d bytes : List ℕ) : Type 0 where
-  pub command : Command
-  pub decodes : decodeAt f bytes 0 ≡ Legal command
-  pub same-fields : fieldsOf command ≡ d
-
 pub slot-reads-back : (f : Features) (d slot : List ℕ) → length d ≡ wide → write f d slot .answer ≡ Written → SlotReadsBack f d (write f d slot .memory)
 slot-reads-back f d slot long e =
     let w = wrote f d slot e in
@@ -134,3 +132,18 @@ slot-writes-back f bs slot m all long room e seen =
     let high = word-lt bs 8 all (omega arith) in
     writing f (fieldsOf m) slot (record { lo = wordAt bs 0; hi = wordAt bs 8 }) room (writes-back f (wordAt bs 0) (wordAt bs 8) m e low high seen)
     ∙ ap (with Written) (same-bytes bs slot all long room)
+
+-- and of every legal command: it is written, each bit that a field of its code has as it was, and every other 0
+pub slot-writes-again : (f : Features) (bs slot : List ℕ) (m : Command) → Bytes bs → length bs ≡ slotSize → length slot ≡ slotSize → decodeAt f bs 0 ≡ Legal m → WritesAgain f bs slot m
+unfolding decodeAt
+slot-writes-again f bs slot m all long room e =
+    let low = word-lt bs 0 all (omega arith) in
+    let high = word-lt bs 8 all (omega arith) in
+    let x = split (encoded (fieldsOf m)) in
+    let w = writing f (fieldsOf m) slot x room (writes-again f (wordAt bs 0) (wordAt bs 8) m e low high) in
+    let there : joined (wordAt (withCommand slot 0 x) 0) (wordAt (withCommand slot 0 x) 8) ≡ encoded (fieldsOf m) =
+    ap₂ joined (low-there slot 0 x (omega arith) (low-lt (fieldsOf m))) (high-there slot 0 x (omega arith) (high-lt (fieldsOf m))) ∙ whole-split (encoded (fieldsOf m)) in
+    record {
+      written = rw w;
+      bit = λ i. rw w (ap (isSet i) there ∙ written-bit f (wordAt bs 0) (wordAt bs 8) m e low high i);
+    }

@@ -121,6 +121,10 @@ keys = map keyOf layouts
 abbrev pub layoutOf : ℕ → List Named
 layoutOf c = code ∷ getD (map fieldsIn layouts) (placeOf keys c) []
 
+-- the bits of some fields
+abbrev pub ranges : List Named → List Range
+ranges fs = map bitsOf fs
+
 -- how many bits a field has, by its number, and what a command says there; without bits, 0
 abbrev pub widthAt : List Named → ℕ → ℕ
 widthAt [] k = 0
