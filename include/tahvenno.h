@@ -60,7 +60,7 @@
  * raises, so never more than there are used rows and waiting commands (TAHVENNO_MAX_STORES at most). For each command the rows of
  * the kept memory come first, then those of the second table, then the control word. An allowance of 0 makes no store: where one is
  * due the call ends Cut, and called so again it never gets further. An event_write has an allowance in the same sense. The other
- * calls store one word or none of what survives a cut, and the writers bytes of the queue (WRITERS, below).
+ * calls store one word or none of kept memory, second table and recorder, and the writers bytes of a queue (WRITERS, below).
  *
  * A run that ended Cut goes on when it is called again, with the same second table. A fill does not, nor a table_fill: it starts
  * from its first store every time, and until its last store the row is empty. Repeated after it has finished, either is refused
@@ -154,10 +154,10 @@
  * too: it is written, and removes nothing. Bits that a run does not look at are written as 0.
  *
  * write_batch has no allowance. It stores every byte of its commands before the control word, in single stores of any size, and to
- * no other slot. So if power goes inside it, the queue, where it survives, holds a part of them in free slots, of which no run
- * knows; call it again from the start. docs/BOX.md has what to do where the bytes could arrive after the control word. A batch that
- * was refused has written nothing. A batch of no commands stores the control word as it is. Repeated after it has finished, a batch
- * is there twice, or is refused with 22: WR tells whether it was finished.
+ * no other slot. So if power goes inside it and WR has not moved, the queue, where it survives, holds a part of them in free slots,
+ * of which no run knows; call it again from the start. If WR has moved, the batch was sent, and called again it is there twice, or
+ * is refused with 22. docs/BOX.md has what to do where the bytes could arrive after the control word. A batch that was refused has
+ * written nothing. A batch of no commands stores the control word as it is.
  *
  * THE RECORDER is a ring of records of 32 bytes, in words of its own; no call takes both these and the kept memory. event_write
  * makes 5 stores: the record's four words, the first one first, to the slot at WR, then the index word with WR one further. Until

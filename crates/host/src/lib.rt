@@ -184,8 +184,7 @@ pub extern "C" fn tahvenno_write_command(
 ) -> u64
     ensures { λ r. ⌜ Leaves (writeCommand (now (fields .entry)) features (now (slot .entry))) (now (slot .exit)) (now (answer .exit)) r ⌝ }
 {
-    let f = commands::features_of(features);
-    let a = writer::write(&mut *slot, fields, f);
+    let a = writer::write(&mut *slot, fields, commands::features_of(features));
     tell(&mut *answer, interface::write_reply(a))
 }
 
@@ -199,7 +198,11 @@ pub extern "C" fn tahvenno_write_batch(
 ) -> u64
     ensures { λ r. ⌜ Leaves (writeBatch (now (commands .entry)) features (lent (now (kept .entry)) (now (queue .entry)))) (lent (now (kept .exit)) (now (queue .exit))) (now (answer .exit)) r ⌝ }
 {
-    let f = commands::features_of(features);
-    let a = batch_writes::write_batch(&mut *kept, &mut *queue, commands, f);
+    let a = batch_writes::write_batch(
+        &mut *kept,
+        &mut *queue,
+        commands,
+        commands::features_of(features),
+    );
     tell(&mut *answer, interface::batch_reply(a))
 }
