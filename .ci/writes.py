@@ -33,6 +33,8 @@ STORES = {
     ('registers', 'acknowledge'): 1,
     ('image_state', 'gather'): 1,
 }
+# What a function lends last: a batch's doorbell comes behind all that is written to the queue.
+LAST = {('batch_writes', 'write_batch'): 'ring'}
 # No part of the unit: it reads and writes text for the programs, and no crate of the unit rests on it.
 OUTSIDE = {'text'}
 # It fills its caller's array, in a loop. So nothing but an array of its caller's own is handed to it.
@@ -114,6 +116,8 @@ def wrong(crate, text):
             found.append('%s::%s stores %d times, allowed %d' % (crate, name, count, may))
         if may and (crate, name) != GATHERS and (lent or {'loop', 'while', 'for'} & set(tokens)):
             found.append('%s::%s stores and has a loop, or lends what may be stored to' % (crate, name))
+        if (crate, name) in LAST and [callee for _, callee in lent][-1:] != [LAST[crate, name]]:
+            found.append('%s::%s lends something behind %s' % (crate, name, LAST[crate, name]))
         for what, callee in lent:
             if not callee or callee == GATHERS[1] and not re.search(r'\blet mut %s = \[' % what, body):
                 found.append('%s::%s lends %s otherwise than to a call that hands it on' % (crate, name, what))

@@ -9,7 +9,7 @@ use Rattle.host.proofs.tahvenno_write_batch.Tie as tie
 
 returns : tie.Need-returns
 returns c =
-    let made = rw (c .before .before .before .before .before .before .before .before .before .before .features-of .ensures) at (c .before .before .before .before .before .before .before .write-batch .ensures) in
+    let made = rw (c .before .before .before .before .before .before .before .before .features-of .ensures) at (c .before .before .before .before .before .before .before .write-batch .ensures) in
     leaves (c .tell .ensures) (c .before .batch-reply .ensures ∙ ap batchReply (made .answers)) (made .leaves)
 
 pub tahvenno-write-batch-spec : {M : Type 1} → statement M

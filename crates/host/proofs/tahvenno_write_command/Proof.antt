@@ -9,7 +9,7 @@ use Rattle.host.proofs.tahvenno_write_command.Tie as tie
 
 returns : tie.Need-returns
 returns c =
-    let made = rw (c .before .before .before .before .before .before .before .features-of .ensures) at (c .before .before .before .before .before .write .ensures) in
+    let made = rw (c .before .before .before .before .before .before .features-of .ensures) at (c .before .before .before .before .before .write .ensures) in
     leaves (c .tell .ensures) (c .before .write-reply .ensures ∙ ap writeReply (made .answers)) (made .leaves)
 
 pub tahvenno-write-command-spec : {M : Type 1} → statement M
