@@ -98,6 +98,16 @@ def stores():
     expect('a run may not store', len(writes.wrong('runs', step.replace('fn step', 'pub fn go'))) == 1)
     expect('nor add to a word', len(writes.wrong('runs', step.replace('fn step', 'pub fn go').replace('] = 0', '] += 1'))) == 1)
     expect('reading and comparing is free', writes.wrong('runs', 'fn go(kept: &mut [u64]) -> bool\n{\n    kept[0] == 1\n}\n') == [])
+    ring = "fn ring(kept: &mut [u64], w: u64) { kept[0] = w; }"
+    expect('a doorbell may store', writes.wrong('batch_writes', ring) == [])
+    expect('and lends nothing', len(writes.wrong('batch_writes', ring.replace('kept[0] = w;', 'kept[0] = w; place(&mut *kept, w);'))) == 1)
+    batch = 'fn write_batch(kept: &mut [u64], queue: &mut [u8], w: u64) { place(&mut *queue, w); ring(&mut *kept, w); }'
+    expect('the doorbell last', writes.wrong('batch_writes', batch) == [])
+    first = batch.replace('place(&mut *queue, w); ring(&mut *kept, w);', 'ring(&mut *kept, w); place(&mut *queue, w);')
+    expect('not first', len(writes.wrong('batch_writes', first)) == 1)
+    bytes_of = 'fn write(slot: &mut [u8], v: u8) { slot[0] = v; }'
+    expect('bytes of a slot are stored by words', len(writes.wrong('writer', bytes_of)) == 1)
+    expect('and lent as a whole', len(writes.wrong('writer', bytes_of.replace('slot[0] = v;', 'put(&mut slot[1..], v);'))) == 1)
     expect('a copy written back', len(writes.wrong('runs', 'fn go(kept: &mut [u64], copy: [u64; 5])\n{\n    kept[0] = copy[0];\n    kept[1] = copy[1];\n}\n')) == 1)
 
 

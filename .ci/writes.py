@@ -1,11 +1,12 @@
-"""writes.py [DIR]: kept memory is assigned only where a single store is made.
+"""writes.py [DIR]: kept memory is assigned only where a single store is made, and bytes of a slot only where a word of them is.
 
 A contract sees a call's entry and exit, so it cannot tell a unit that works on a copy and writes it back. This check can. In
 the library crates below DIR (crates/):
 - an assignment to more than a local's name (an element, a field, what a reference leads to) is a store, and a function's text
   has just the stores that it has below;
 - a function that stores has no loop and lends nothing to change, so that nothing repeats its store within a call of it;
-- `&mut` stands only before a whole argument of a call, and a lent slice of words is only indexed, measured or handed on.
+- `&mut` stands only before a whole argument of a call, and a lent slice of words or bytes is only indexed, measured or handed
+  on.
 """
 import os
 import re
@@ -24,11 +25,16 @@ STORES = {
     ('event_calls', 'read'): 1,
     ('event_calls', 'acknowledge'): 1,
     ('region_fills', 'step'): 1,
+    ('batch_writes', 'ring'): 1,
+    # to the bytes of a slot: those of one word
+    ('words', 'store_at'): 8,
     # to other memory: the words of an answer, lent fields, an array of its caller's
     ('host', 'tell'): 1,
     ('registers', 'acknowledge'): 1,
     ('image_state', 'gather'): 1,
 }
+# What a function lends last: a batch's doorbell comes behind all that is written to the queue.
+LAST = {('batch_writes', 'write_batch'): 'ring'}
 # No part of the unit: it reads and writes text for the programs, and no crate of the unit rests on it.
 OUTSIDE = {'text'}
 # It fills its caller's array, in a loop. So nothing but an array of its caller's own is handed to it.
@@ -103,13 +109,15 @@ def wrong(crate, text):
     found = []
     for name, params, body in functions(text):
         tokens = re.findall(TOKEN, body)
-        slices = re.findall(r'(\w+)\s*:\s*&(?:\'\w+\s+)?mut\s*\[u64\]', params)
+        slices = re.findall(r'(\w+)\s*:\s*&(?:\'\w+\s+)?mut\s*\[u(?:64|8)\]', params)
         lent = list(lends(slices, tokens))
         count, may = stores(tokens), STORES.get((crate, name), 0)
         if count != may:
             found.append('%s::%s stores %d times, allowed %d' % (crate, name, count, may))
         if may and (crate, name) != GATHERS and (lent or {'loop', 'while', 'for'} & set(tokens)):
             found.append('%s::%s stores and has a loop, or lends what may be stored to' % (crate, name))
+        if (crate, name) in LAST and [callee for _, callee in lent][-1:] != [LAST[crate, name]]:
+            found.append('%s::%s lends something behind %s' % (crate, name, LAST[crate, name]))
         for what, callee in lent:
             if not callee or callee == GATHERS[1] and not re.search(r'\blet mut %s = \[' % what, body):
                 found.append('%s::%s lends %s otherwise than to a call that hands it on' % (crate, name, what))

@@ -5,8 +5,9 @@
 
 #include "tahvenno.h"
 
-const char *const CALL_NAMES[CALLS] = {"run",       "fill",  "doorbell",   "acknowledge", "enable",     "clear_pending",
-                                       "translate", "state", "table_fill", "event_write", "event_read", "event_acknowledge"};
+const char *const CALL_NAMES[CALLS] = {"run",           "fill",        "doorbell",   "acknowledge",      "enable",
+                                       "clear_pending", "translate",   "state",      "table_fill",       "write_command",
+                                       "write_batch",   "event_write", "event_read", "event_acknowledge"};
 
 void make_call(const struct call *call, const struct input *input, uint64_t *kept, const uint8_t *queue, struct outcome *outcome) {
     const struct access *access = &call->access;
@@ -31,6 +32,14 @@ void make_call(const struct call *call, const struct input *input, uint64_t *kep
     case STATE: returned = tahvenno_state(kept, words, answer); break;
     case TABLE_FILL:
         returned = tahvenno_table_fill(kept, words, table, table_words, call->row, call->w[0], call->w[1], call->allowance, answer);
+        break;
+    case WRITE_COMMAND:
+        returned = tahvenno_write_command((uint8_t *)queue + 16 * call->row, call->argument, call->commands, input->features,
+                                          answer);
+        break;
+    case WRITE_BATCH:
+        returned = tahvenno_write_batch(kept, words, (uint8_t *)queue, input->bytes, call->commands, call->command_words,
+                                        input->features, answer);
         break;
     case EVENT_WRITE: returned = tahvenno_event_write(kept, words, queue, call->allowance, answer); break;
     case EVENT_READ: returned = tahvenno_event_read(kept, words, answer); break;
@@ -89,6 +98,30 @@ static void any_table_fill(struct dice *dice, const struct input *input, struct 
     if (spoil == 2) call->w[0] = 0;
 }
 
+void any_commands(struct dice *dice, uint64_t features, uint64_t count, uint64_t rarity, uint64_t *commands) {
+    for (uint64_t *command = commands; command < commands + COMMAND_WORDS * count; command += COMMAND_WORDS) {
+        uint64_t fate = rarity ? below(dice, 2 * rarity) : 2;
+        if (fate == 0) absent_fields(dice, features, command);
+        else if (fate == 1) spoilt_fields(dice, features, command);
+        else any_fields(dice, features, command);
+    }
+}
+
+/* What a writer is to write: few commands more often than many, now and then more than there are slots, or a part of one. */
+static void any_write(struct dice *dice, const struct input *input, struct call *call) {
+    static uint64_t commands[COMMANDS_ROOM];
+    uint64_t slots = UINT64_C(1) << (input->kept[0] >> SIZE_SHIFT & 15), most = slots < MOST_SLOTS ? slots : MOST_SLOTS;
+    uint64_t few = below(dice, 4), count = below(dice, most + 2);
+    if (call->which == WRITE_COMMAND) count = 1;
+    else if (few && count > 6) count %= 6;
+    any_commands(dice, input->features, count, call->which == WRITE_COMMAND ? 2 : 2 * count + 1, commands);
+    uint64_t part = below(dice, 16), length = below(dice, 48), whole = input->bytes / 16; /* the only slot may be damaged */
+    call->commands = commands;
+    call->command_words = COMMAND_WORDS * count + (part ? 0 : length % COMMAND_WORDS);
+    call->row = below(dice, whole ? whole : 1);
+    call->argument = !whole ? input->bytes : below(dice, 8) ? 16 : length;
+}
+
 void any_call(struct dice *dice, const struct input *input, enum which which, struct call *call) {
     uint64_t rows = (input->words - 1) / 4;
     memset(call, 0, sizeof *call);
@@ -96,6 +129,10 @@ void any_call(struct dice *dice, const struct input *input, enum which which, st
     call->allowance = any_allowance(dice);
     if (which == TABLE_FILL) {
         any_table_fill(dice, input, call);
+        return;
+    }
+    if (which == WRITE_COMMAND || which == WRITE_BATCH) {
+        any_write(dice, input, call);
         return;
     }
     call->row = below(dice, rows + 1);

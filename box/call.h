@@ -2,7 +2,7 @@
 #ifndef CALL_H
 #define CALL_H
 
-#include "inputs.h"
+#include "fields.h"
 
 enum which {
     RUN,
@@ -14,6 +14,8 @@ enum which {
     TRANSLATE,
     STATE,
     TABLE_FILL,
+    WRITE_COMMAND, /* the writers */
+    WRITE_BATCH,
     EVENT_WRITE, /* those from here on are on a recorder */
     EVENT_READ,
     EVENT_ACKNOWLEDGE,
@@ -23,9 +25,11 @@ enum which {
 struct call {
     enum which which;
     uint64_t allowance; /* run, either fill, event write */
-    uint64_t row, w[4]; /* fill; that of the second table has two words */
-    uint64_t argument;  /* doorbell: WR; enable: on */
+    uint64_t row, w[4]; /* fill; that of the second table has two words; row also the slot of a write_command */
+    uint64_t argument;  /* doorbell: WR; enable: on; write_command: the slot's length */
     struct access access;
+    const uint64_t *commands; /* the writers; lives until the next any_call */
+    size_t command_words;
 };
 
 struct outcome {
@@ -35,11 +39,15 @@ struct outcome {
 
 extern const char *const CALL_NAMES[CALLS];
 
-/* Makes a call on this memory, with the second table in it, and queue, with the input's lengths and features. */
+/* Makes a call on this memory, with the second table in it, and queue, with the input's lengths and features. Only the writers write
+ * to the queue. */
 void make_call(const struct call *call, const struct input *input, uint64_t *kept, const uint8_t *queue, struct outcome *outcome);
 
 /* A call of this kind that fits the input, more often than not. */
 void any_call(struct dice *dice, const struct input *input, enum which which, struct call *call);
+
+/* So many commands of 16 words, about one in `rarity` of which is refused; none if that is 0. */
+void any_commands(struct dice *dice, uint64_t features, uint64_t count, uint64_t rarity, uint64_t *commands);
 
 /* A call on a recorder, whatever is in it. */
 void any_event(struct dice *dice, enum which which, struct call *call);

@@ -1,8 +1,9 @@
 /* calls [SEED [COUNT]]: pseudo-random calls of the unit, and what comes of them as numbers that can be compared between machines.
  *
  * Accepted images and recorders, several calls in a row on each, and damaged ones; every call. Prints a hash over every number
- * returned, every answer and every word of kept memory and of the second table, now and then while it goes on, and how often each
- * call gave each number and each end. Ends with 1 where a refusal or an end never came up, or a call wrote beside its memory. */
+ * returned, every answer, every word of kept memory and of the second table and every byte of a queue that is written, now and
+ * then while it goes on, and how often each call gave each number and each end. Ends with 1 where a refusal or an end never came
+ * up, or a call wrote beside its memory. */
 #include <inttypes.h>
 #include <stdio.h>
 #include <stdlib.h>
@@ -10,11 +11,12 @@
 
 #include "call.h"
 
-enum { REFUSALS = 19, ENDS = 6, MARK_EVERY = 10000 };
+enum { REFUSALS = 23, ENDS = 6, MARK_EVERY = 10000 };
 
 /* What each call can return, a bit for each number, and how many ends its answer has. */
-static const unsigned RETURNS[CALLS] = {0x601F, 0xB8F, 0x2F, 0x4F, 0xF, 0x100F, 0x40F, 0xF, 0x638F, 0x18001, 0x38001, 0x58001};
-static const unsigned ENDS_OF[CALLS] = {5, 2, 0, 0, 0, 0, 6, 0, 2, 3, 0, 0};
+static const unsigned RETURNS[CALLS] = {0x601F, 0xB8F,  0x2F,     0x4F,     0xF,     0x100F,  0x40F,
+                                        0xF,    0x638F, 0x380001, 0x70001F, 0x18001, 0x38001, 0x58001};
+static const unsigned ENDS_OF[CALLS] = {5, 2, 0, 0, 0, 0, 6, 0, 2, 0, 0, 3, 0, 0};
 
 static uint64_t hash = UINT64_C(0xCBF29CE484222325), returned[CALLS][REFUSALS], ended[CALLS][ENDS];
 
@@ -27,6 +29,24 @@ static void take(uint64_t word) {
 static void stop(const char *why, enum which which) {
     printf("calls: %s: %s\n", CALL_NAMES[which], why);
     exit(1);
+}
+
+/* Makes a call, of the writers on a queue with marked bytes on both sides of it, and takes what it left there. */
+static void call_on_queue(const struct call *call, struct input *input, uint64_t *kept, struct outcome *outcome) {
+    static uint8_t memory[16 + QUEUE_ROOM + 16], *const queue = memory + 16;
+    static const uint8_t mark[16] = {0x5A, 0xFE, 0x5A, 0xFE, 0x5A, 0xFE, 0x5A, 0xFE};
+    if (call->which != WRITE_COMMAND && call->which != WRITE_BATCH) {
+        make_call(call, input, kept, input->queue, outcome);
+        return;
+    }
+    memcpy(memory, mark, sizeof mark);
+    memcpy(queue, input->queue, input->bytes);
+    memcpy(queue + input->bytes, mark, sizeof mark);
+    make_call(call, input, kept, queue, outcome);
+    if (memcmp(memory, mark, sizeof mark) || memcmp(queue + input->bytes, mark, sizeof mark))
+        stop("wrote beside the queue", call->which);
+    for (size_t i = 0; i < input->bytes; i++) take(queue[i]);
+    memcpy(input->queue, queue, input->bytes);
 }
 
 /* Makes one call on memory with marked words on both sides of it and of the second table, and takes everything that it left. */
@@ -43,7 +63,7 @@ static void one(const struct call *call, struct input *input) {
     memcpy(table, input->kept + TABLE_AT, 8 * input->table_words);
     kept[input->words] = mark;
     table[-1] = table[input->table_words] = mark;
-    make_call(call, input, kept, input->queue, &told.outcome);
+    call_on_queue(call, input, kept, &told.outcome);
     if (memory[0] != mark || kept[input->words] != mark) stop("wrote beside kept memory", call->which);
     if (table[-1] != mark || table[input->table_words] != mark) stop("wrote beside the second table", call->which);
     if (told.before != mark || told.after != mark) stop("wrote beside its answer", call->which);

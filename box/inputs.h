@@ -15,6 +15,9 @@ enum { MOST_WORDS = 1 + 4 * MOST_ROWS, ROOM = MOST_WORDS + 7 };
 /* The second table stands in the same array as the kept memory, from this word on: so one number names a word of either. */
 enum { MOST_REGIONS = 128, TABLE_AT = ROOM, TABLE_ROOM = 2 * MOST_REGIONS + 5, BOTH = TABLE_AT + TABLE_ROOM };
 
+/* The commands of a batch, 16 words each: one more than there are slots, and one that is not whole. */
+enum { COMMAND_WORDS = 16, COMMANDS_ROOM = COMMAND_WORDS * (MOST_SLOTS + 2) };
+
 /* More stores than a run can make, so that one that makes too many is seen. */
 enum { MOST_STORES = 2 * (MOST_ROWS + MOST_REGIONS + MOST_SLOTS) };
 

@@ -4,17 +4,16 @@
  * a used row, moving RD and flipping GERROR all change the word. At the limits, where that takes too long, it is read from calls
  * of one store each. What either fill, a control call and the calls of the recorder have to store is in their words.
  * Every call is then made on watched memory, and word, value, order and number of the stores that are seen have to be those; a
- * call that is refused, a transaction and the state have to store nothing. Ends with 1 at the first difference, and where a kind
- * of store never came up. */
+ * call that is refused, a transaction and the state have to store nothing. The writers are watched in writers.c. Ends with 1 at the
+ * first difference, and where a kind of store never came up. */
 #include <inttypes.h>
 #include <stdarg.h>
 #include <stdio.h>
 #include <stdlib.h>
 #include <string.h>
 
-#include "call.h"
+#include "stores.h"
 #include "tahvenno.h"
-#include "watch.h"
 
 _Static_assert(MOST_EVENTS == TAHVENNO_MAX_EVENT_N && RECORD_BYTES == TAHVENNO_RECORD_BYTES, "the header has other limits");
 _Static_assert(MOST_ROWS == TAHVENNO_MAX_ROWS && MOST_LOG2SIZE == TAHVENNO_MAX_LOG2SIZE, "the header has other limits");
@@ -27,12 +26,14 @@ _Static_assert(DPT_FEATURE == TAHVENNO_DPT && MOST_REGIONS == TAHVENNO_MAX_REGIO
 /* At how many places a run at the limits is cut. */
 enum { PLACES = 1000 };
 
+uint64_t watched_calls, watched_stores, refused_calls[CALLS], done_calls[CALLS];
+
 static uint64_t seed = 1;
 
 static struct {
-    uint64_t calls, stores, runs, cut, removed, consumed, raised, several, off, held, empty;
+    uint64_t runs, cut, removed, consumed, raised, several, off, held, empty;
     uint64_t made_pending, left_pending, raised_pending;
-    uint64_t fills, cut_fills, same_words, same_controls, refused[CALLS], done[CALLS];
+    uint64_t fills, cut_fills, same_words, same_controls;
     uint64_t upper_fills, upper_removed, doubled;
     uint64_t el2_fills, e2h_fills, marked_beside, el2_removed, e2h_removed;
     uint64_t ranges, ranges_removed, ranges_several, ranges_of_two;
@@ -41,7 +42,7 @@ static struct {
     uint64_t records, cut_records, same_records, flips, cut_flips, drops;
 } seen;
 
-static void fail(const char *what, ...) {
+void fail(const char *what, ...) {
     va_list rest;
     va_start(rest, what);
     printf("stores: ");
@@ -51,18 +52,14 @@ static void fail(const char *what, ...) {
     exit(1);
 }
 
-struct watched_call {
-    const struct call *call;
-    const struct input *input;
-    struct outcome outcome;
-};
-
-static void make_watched(void *given) {
+void make_watched(void *given) {
     struct watched_call *watched = given;
-    make_call(watched->call, watched->input, watch_kept(), watch_queue(), &watched->outcome);
+    struct call call = *watched->call;
+    call.commands = watch_commands();
+    make_call(&call, watched->input, watch_kept(), watch_queue(), &watched->outcome);
 }
 
-static void compare_stores(const char *name, const struct trace *trace, const struct store *expected, size_t count) {
+void compare_stores(const char *name, const struct trace *trace, const struct store *expected, size_t count) {
     for (size_t i = 0; i < trace->count && i < count; i++) {
         const struct store *is = &trace->stores[i];
         if (is->word != expected[i].word || is->value != expected[i].value)
@@ -90,8 +87,8 @@ static void check_call(const struct input *input, const struct call *call, const
         if (memcmp(watch_kept(), plain, 8 * input->words)) fail("%s: other memory where it is watched", name);
         if (memcmp(watch_kept() + TABLE_AT, plain + TABLE_AT, 8 * input->table_words))
             fail("%s: another second table where it is watched", name);
-        seen.calls++;
-        seen.stores += trace->count;
+        watched_calls++;
+        watched_stores += trace->count;
     }
 }
 
@@ -392,7 +389,7 @@ static void check_table_fill(struct dice *dice, struct input *input, int same) {
         seen.cut_table_fills += count < 2;
         seen.same_bases += same && count > 0;
     }
-    seen.done[TABLE_FILL]++;
+    done_calls[TABLE_FILL]++;
 }
 
 static void check_table_fills(struct dice *dice, int rounds) {
@@ -411,15 +408,15 @@ static uint64_t control_after(const struct call *call, uint64_t control) {
     return call->argument ? control | CMDQEN : control & ~CMDQEN;
 }
 
-/* Every call but runs and fills, of either table, of accepted images: one control store if it is carried out, none if it is refused
- * or only reads. */
+/* Every call but runs, fills of either table and writers, of accepted images: one control store if it is carried out, none if it
+ * is refused or only reads. */
 static void check_others(struct dice *dice, int rounds) {
     static struct input input;
     struct call call;
     struct outcome outcome;
     uint64_t plain[BOTH];
     for (int i = 0; i < rounds; i++) {
-        enum which which = (enum which)(i % EVENT_WRITE);
+        enum which which = (enum which)(i % WRITE_COMMAND);
         any_input(dice, &input, LARGEST, 8);
         any_call(dice, &input, which, &call);
         if (below(dice, 3) == 0) damage(dice, &input);
@@ -429,9 +426,9 @@ static void check_others(struct dice *dice, int rounds) {
         struct store store = {0, control_after(&call, input.kept[0])};
         int stores = !outcome.returned && which <= CLEAR_PENDING;
         check_call(&input, &call, &store, (size_t)stores);
-        seen.refused[which] += outcome.returned != 0;
+        refused_calls[which] += outcome.returned != 0;
         seen.doubled += outcome.returned == 11;
-        seen.done[which] += outcome.returned == 0;
+        done_calls[which] += outcome.returned == 0;
         seen.same_controls += stores && store.value == input.kept[0];
     }
 }
@@ -473,7 +470,7 @@ static void check_record(struct dice *dice, struct input *input) {
         seen.cut_flips += due == 1 && count == 0;
         seen.drops += due == 0;
     }
-    seen.done[EVENT_WRITE]++;
+    done_calls[EVENT_WRITE]++;
 }
 
 /* The index word that reading and acknowledging have to store. */
@@ -492,8 +489,8 @@ static void check_event(const struct input *input, const struct call *call) {
     if (call->which == EVENT_WRITE && !outcome.returned) return;
     struct store store = {0, outcome.returned ? 0 : index_after(call->which, input)};
     check_call(input, call, &store, !outcome.returned);
-    seen.refused[call->which] += outcome.returned != 0;
-    seen.done[call->which] += outcome.returned == 0;
+    refused_calls[call->which] += outcome.returned != 0;
+    done_calls[call->which] += outcome.returned == 0;
 }
 
 /* Rings of every size, with none, one, nearly all and all slots in use, and every value of the flags; then damaged ones. */
@@ -514,8 +511,13 @@ static void check_events(struct dice *dice, int rounds) {
     }
 }
 
+void all_came_up(const char *of, const uint64_t *counts, size_t count) {
+    for (size_t i = 0; i < count; i++)
+        if (counts[i] == 0) fail("a kind of store or end never came up: %s, counter %zu", of, i);
+}
+
 static void report(void) {
-    printf("stores: %" PRIu64 " watched calls, %" PRIu64 " stores, each where and when it is due\n", seen.calls, seen.stores);
+    printf("stores: %" PRIu64 " watched calls, %" PRIu64 " stores, each where and when it is due\n", watched_calls, watched_stores);
     printf("stores: %" PRIu64 " runs (%" PRIu64 " off, %" PRIu64 " held, %" PRIu64 " empty, %" PRIu64 " raised) at %" PRIu64
            " allowances that cut: %" PRIu64 " rows removed, %" PRIu64 " commands consumed, %" PRIu64 " of them with several rows\n",
            seen.runs, seen.off, seen.held, seen.empty, seen.raised, seen.cut, seen.removed, seen.consumed, seen.several);
@@ -539,32 +541,36 @@ static void report(void) {
            " rows would be doubled but for a mark; %" PRIu64 " and %" PRIu64 " such rows are removed\n",
            seen.el2_fills, seen.e2h_fills, seen.marked_beside, seen.el2_removed, seen.e2h_removed);
     for (enum which which = RUN; which < CALLS; which++) {
-        if (which > FILL) printf("stores: %s: %" PRIu64 " carried out, ", CALL_NAMES[which], seen.done[which]);
-        else seen.done[which] = 1, printf("stores: %s: ", CALL_NAMES[which]);
-        printf("%" PRIu64 " refused\n", seen.refused[which]);
+        if (which > FILL) printf("stores: %s: %" PRIu64 " carried out, ", CALL_NAMES[which], done_calls[which]);
+        else done_calls[which] = 1, printf("stores: %s: ", CALL_NAMES[which]);
+        printf("%" PRIu64 " refused\n", refused_calls[which]);
     }
     printf("stores: %" PRIu64 " control calls stored what was there already\n", seen.same_controls);
     printf("stores: %" PRIu64 " records stored, %" PRIu64 " cut, with %" PRIu64 " words that were there already; %" PRIu64
            " dropped with a flip, %" PRIu64 " cut before it, %" PRIu64 " dropped without\n",
            seen.records, seen.cut_records, seen.same_records, seen.flips, seen.cut_flips, seen.drops);
-    const uint64_t *counts = (const uint64_t *)&seen;
-    for (size_t i = 0; i < sizeof seen / sizeof *counts; i++)
-        if (counts[i] == 0) fail("a kind of store or end never came up: counter %zu", i);
+    all_came_up("refused calls", refused_calls, CALLS);
+    all_came_up("calls carried out", done_calls, CALLS);
+    all_came_up("stores", (const uint64_t *)&seen, sizeof seen / sizeof(uint64_t));
 }
 
 int main(int argc, char **argv) {
-    struct dice dice, own, table;
+    struct dice dice, own, table, writers;
     int rounds = argc > 2 ? atoi(argv[2]) : 8;
     if (argc > 1) seed = strtoull(argv[1], NULL, 0);
     dice.state = seed;
-    own.state = ~seed; /* so that the other inputs stay as they were without the recorder, and without the second table */
+    own.state = ~seed; /* so that the other inputs stay as they were without the recorder, the second table, and the writers */
     table.state = seed << 32;
+    writers.state = ~seed << 32;
     watch_start();
+    check_writers(&writers, rounds);
     check_events(&own, rounds);
     check_table_fills(&table, rounds);
     check_fills(&dice, rounds);
     check_others(&dice, 2000 * rounds);
     check_runs(&dice, rounds, 80 * rounds);
+    check_largest_batches(&writers, rounds);
     report();
+    report_writers();
     return 0;
 }

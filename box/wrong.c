@@ -2,11 +2,12 @@
  *
  * The linker puts these functions before the unit's (--wrap), and TAHVENNO_WRONG names the fault. Each asks the unit on a copy
  * what is to be stored, and then makes the stores its own way: so answers are right, mostly memory too, and only the stores tell.
- * Without a fault they are right as well, and box/stores has to accept them. */
+ * Without a fault they are right as well, and box/stores has to accept them. Those of the writers are in wrong_writers.c. */
+#include "wrong.h"
+
 #include <stdlib.h>
 #include <string.h>
 
-#include "inputs.h"
 #include "tahvenno.h"
 
 typedef uint64_t pair __attribute__((vector_size(16), aligned(8)));
@@ -29,23 +30,22 @@ struct lent {
     uint64_t features;
 };
 
-static int fault(const char *name) {
+int fault(const char *name) {
     const char *chosen = getenv("TAHVENNO_WRONG");
     return chosen && strcmp(chosen, name) == 0;
 }
 
-static void store(uint64_t *kept, size_t at, uint64_t value) {
+void store(uint64_t *kept, size_t at, uint64_t value) {
     *(word *)&kept[at] = value;
 }
 
-static void in_halves(uint64_t *kept, size_t at, uint64_t value) {
+void in_halves(uint64_t *kept, size_t at, uint64_t value) {
     volatile uint32_t *halves = (volatile uint32_t *)(void *)&kept[at];
     halves[0] = (uint32_t)value;
     halves[1] = (uint32_t)(value >> 32);
 }
 
-/* Two words by one instruction: a vector's store, or on AArch64 also that of a pair of general registers. */
-static void both(uint64_t *kept, size_t at, uint64_t low, uint64_t high) {
+void both(uint64_t *kept, size_t at, uint64_t low, uint64_t high) {
     pair value = {low, high};
 #ifdef __aarch64__
     if (fault("fill-paired") || fault("table-fill-paired") || fault("event-paired"))

@@ -16,7 +16,7 @@ pub fn answer(words: &[u64]) -> [u64; 8] {
 }
 
 /// What a caller is told: 0 and the answer, or the refusal's number. Refusals 3 and
-/// 14 name their row.
+/// 14 name their row, 20 and 21 their command.
 pub fn reply(result: Result<[u64; 8], Refusal>) -> Reply {
     match result {
         Ok(answer) => Reply { number: 0, answer },
@@ -24,6 +24,9 @@ pub fn reply(result: Result<[u64; 8], Refusal>) -> Reply {
             number: refusal.number(),
             answer: match refusal {
                 Refusal::Row(lowest) | Refusal::TableRow(lowest) => answer(&[lowest as u64]),
+                Refusal::FeatureAbsent(command) | Refusal::Fields(command) => {
+                    answer(&[command as u64])
+                }
                 _ => answer(&[]),
             },
         },

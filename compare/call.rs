@@ -27,12 +27,22 @@ pub enum Call<'a> {
         words: [u64; 2],
         allowance: u64,
     },
+    /// Commands of sixteen words each, to be written into the lent queue.
+    WriteBatch {
+        commands: &'a [u64],
+        features: u64,
+    },
     EventWrite {
         record: &'a [u8; 32],
         allowance: u64,
     },
     EventRead,
     EventAcknowledge,
+    /// A command, to be written into the lent slot.
+    WriteCommand {
+        fields: &'a [u64; 16],
+        features: u64,
+    },
 }
 
 /// A transaction as the C interface takes it.
@@ -48,7 +58,7 @@ pub struct Asked {
 }
 
 /// The names of the calls, in the order of `Call::index`.
-pub const NAMES: [&str; 12] = [
+pub const NAMES: [&str; 14] = [
     "run",
     "fill",
     "doorbell",
@@ -58,17 +68,21 @@ pub const NAMES: [&str; 12] = [
     "state",
     "clear_pending",
     "table_fill",
+    "write_batch",
     "event_write",
     "event_read",
     "event_acknowledge",
+    "write_command",
 ];
 
-/// The calls from here on are on the words of the event recorder, those before on
-/// the kept memory.
-pub const FIRST_EVENT: usize = 9;
+/// The calls before this one are on the kept memory.
+pub const FIRST_EVENT: usize = 10;
+/// These are on the words of the event recorder. The last call of all is on neither.
+pub const EVENT_CALLS: std::ops::Range<usize> = FIRST_EVENT..13;
 
 /// The numbers that each call is passed and their bits, in the order of the C
-/// interface; memory, second table, queue and record aren't among them.
+/// interface; memory, second table, queue, slot, record and the words of commands
+/// aren't among them.
 pub const NUMBERS: [&[(&str, u32)]; NAMES.len()] = [
     &[("features", 64), ("allowance", 64)],
     &[
@@ -94,9 +108,11 @@ pub const NUMBERS: [&[(&str, u32)]; NAMES.len()] = [
     &[],
     &[],
     &[("row", 64), ("w0", 64), ("w1", 64), ("allowance", 64)],
+    &[("features", 64)],
     &[("allowance", 64)],
     &[],
     &[],
+    &[("features", 64)],
 ];
 
 /// The returned number and the answer's words.
@@ -127,9 +143,11 @@ impl Call<'_> {
             Call::State => 6,
             Call::ClearPending => 7,
             Call::TableFill { .. } => 8,
-            Call::EventWrite { .. } => 9,
-            Call::EventRead => 10,
-            Call::EventAcknowledge => 11,
+            Call::WriteBatch { .. } => 9,
+            Call::EventWrite { .. } => 10,
+            Call::EventRead => 11,
+            Call::EventAcknowledge => 12,
+            Call::WriteCommand { .. } => 13,
         }
     }
 
@@ -162,7 +180,9 @@ impl Call<'_> {
                 words: [w0, w1],
                 allowance,
             } => vec![row, w0, w1, allowance],
+            Call::WriteBatch { features, .. } => vec![features],
             Call::EventWrite { allowance, .. } => vec![allowance],
+            Call::WriteCommand { features, .. } => vec![features],
             Call::Acknowledge | Call::State | Call::ClearPending => vec![],
             Call::EventRead | Call::EventAcknowledge => vec![],
         }
@@ -199,8 +219,14 @@ impl Call<'_> {
                 words: [w0, w1],
                 allowance,
             },
+            (Call::WriteBatch { commands, .. }, &[features]) => {
+                Call::WriteBatch { commands, features }
+            }
             (Call::EventWrite { record, .. }, &[allowance]) => {
                 Call::EventWrite { record, allowance }
+            }
+            (Call::WriteCommand { fields, .. }, &[features]) => {
+                Call::WriteCommand { fields, features }
             }
             (call, &[]) => call,
             _ => panic!("a call of other numbers"),

@@ -15,8 +15,9 @@ pub struct Checker {
     seed: u64,
     phase: &'static str,
     garbage: Random,
-    /// The second table that was lent last, as it was before.
+    /// The second table and the bytes that were lent last, as they were before.
     table: Vec<u64>,
+    bytes: Vec<u8>,
     /// A wrong unit in the unit's place.
     wrong: Option<Wrong>,
     pub tally: Tally,
@@ -29,6 +30,7 @@ impl Checker {
             phase: "",
             garbage: Random::new(!seed),
             table: Vec::new(),
+            bytes: Vec::new(),
             wrong,
             tally: Tally::default(),
         }
@@ -54,35 +56,59 @@ impl Checker {
 
     /// The same with a second table, which then holds what both left there, too.
     pub fn both(&mut self, kept: &mut [u64], table: &mut [u64], call: Call) -> Reply {
+        self.bytes.clear();
+        let lent = Memory::new(kept, table, &mut self.garbage);
+        self.lending(lent, (kept, table, &mut []), call)
+    }
+
+    /// The same with a slot or a queue that is written.
+    pub fn write(&mut self, kept: &mut [u64], bytes: &mut [u8], call: Call) -> Reply {
+        let mut table = [0, self.garbage.next()];
+        self.bytes = bytes.to_vec();
+        let lent = Memory::new(kept, &table, &mut self.garbage).and(bytes, &mut self.garbage);
+        self.lending(lent, (kept, &mut table, bytes), call)
+    }
+
+    fn lending(
+        &mut self,
+        mut lent: Memory,
+        (kept, table, bytes): (&mut [u64], &mut [u64], &mut [u8]),
+        call: Call,
+    ) -> Reply {
         let before = kept.to_vec();
         self.table = table.to_vec();
-        let mut lent = Memory::new(kept, table, &mut self.garbage);
         let dirt: [u64; 8] = std::array::from_fn(|_| self.garbage.next());
         let mut answer = Lent::new(&dirt, &mut self.garbage);
-        let (number, bytes_kept) = on_unit(call, &mut lent, &mut answer, &self.wrong);
+        let (number, read_kept) = on_unit(call, &mut lent, &mut answer, &self.wrong);
         watchdog::returned();
         let theirs = Reply {
             number,
             answer: std::array::from_fn(|place| answer.inner()[place]),
         };
-        let ours = modelled::perform(call, kept, table, &mut self.tally);
+        let ours = modelled::perform(call, (kept, table, bytes), &mut self.tally);
         self.tally.upper.count(&before, &call, &ours, kept);
         self.tally.doubles.count(&before, &call, &ours);
         self.tally.hyp.count(&before, &call, &ours, kept);
         self.tally.ranges.count(&before, &call, &ours, kept);
         let start = (&before[..], &self.table[..]);
         self.tally.regions.count(start, &call, &ours, (kept, table));
+        self.tally.writer.count(&before, &call, &ours, bytes.len());
 
         let mut scene = self.scene(&before, call, (theirs, lent.inner()), (ours, kept));
         scene.tables = [lent.table(), table];
-        if theirs != ours || lent.inner() != kept || lent.table() != table {
+        scene.written = [lent.bytes(), bytes];
+        let words = lent.inner() == kept && lent.table() == table;
+        if theirs != ours || !words || lent.bytes() != bytes {
             stop(&scene, "unit and model differ");
         }
-        if !bytes_kept || !lent.margins_kept() || !answer.margins_kept() {
+        if !read_kept || !lent.margins_kept() || !answer.margins_kept() {
             stop(&scene, "the unit stored outside the words lent for storing");
         }
         let tables = (&self.table[..], &*table);
-        if let Some(law) = laws::broken(&before, call, ours, kept, tables) {
+        let written = (&self.bytes[..], &*bytes);
+        let law = laws::broken(&before, call, ours, kept, tables)
+            .or_else(|| laws::writer::broken(&before, call, ours, kept, written));
+        if let Some(law) = law {
             stop(&scene, law);
         }
         ours
@@ -121,12 +147,15 @@ impl Checker {
             unit,
             model,
             tables: [&[]; 2],
+            bytes: &self.bytes,
+            written: [&[]; 2],
         }
     }
 }
 
-/// The unit's number, and whether it left the queue or the record alone. It is
-/// lent a copy of them, for the model has to read them as they were.
+/// The unit's number, and whether it left alone what it only reads: a run's queue, the
+/// record, the words of commands. It is lent a copy of them, for the model has to read
+/// them as they were.
 fn on_unit(call: Call, kept: &mut Memory, answer: &mut Lent, wrong: &Option<Wrong>) -> (u64, bool) {
     let perform = |call, kept: &mut Memory, answer: &mut Lent| match wrong {
         None => unit::perform(call, kept, answer),
@@ -157,6 +186,22 @@ fn on_unit(call: Call, kept: &mut Memory, answer: &mut Lent, wrong: &Option<Wron
                 allowance,
             };
             (perform(lent, kept, answer), copy == *record)
+        }
+        Call::WriteCommand { fields, features } => {
+            let copy = *fields;
+            let lent = Call::WriteCommand {
+                fields: &copy,
+                features,
+            };
+            (perform(lent, kept, answer), copy == *fields)
+        }
+        Call::WriteBatch { commands, features } => {
+            let copy = commands.to_vec();
+            let lent = Call::WriteBatch {
+                commands: &copy,
+                features,
+            };
+            (perform(lent, kept, answer), copy == commands)
         }
         _ => (perform(call, kept, answer), true),
     }

@@ -51,6 +51,16 @@ extern "C" {
         allowance: u64,
         answer: *mut u64,
     ) -> u64;
+    pub fn tahvenno_write_batch(
+        kept: *mut u64,
+        words: usize,
+        queue: *mut u8,
+        bytes: usize,
+        commands: *const u64,
+        command_words: usize,
+        features: u64,
+        answer: *mut u64,
+    ) -> u64;
     pub fn tahvenno_event_write(
         events: *mut u64,
         words: usize,
@@ -60,4 +70,11 @@ extern "C" {
     ) -> u64;
     pub fn tahvenno_event_read(events: *mut u64, words: usize, answer: *mut u64) -> u64;
     pub fn tahvenno_event_acknowledge(events: *mut u64, words: usize, answer: *mut u64) -> u64;
+    pub fn tahvenno_write_command(
+        slot: *mut u8,
+        bytes: usize,
+        fields: *const u64,
+        features: u64,
+        answer: *mut u64,
+    ) -> u64;
 }

@@ -5,8 +5,9 @@ mod events;
 mod hyp;
 mod ranges;
 mod regions;
+pub mod writer;
 
-use crate::call::{Call, Reply, CUT, FIRST_EVENT, RAISED};
+use crate::call::{Call, Reply, CUT, EVENT_CALLS, RAISED};
 use crate::model::control::Control;
 use crate::model::image::used_rows;
 use crate::model::region::used_regions;
@@ -28,7 +29,7 @@ pub fn broken(
         return Some(law);
     }
     match call {
-        _ if call.index() >= FIRST_EVENT => events::broken(before, call, reply, after),
+        _ if EVENT_CALLS.contains(&call.index()) => events::broken(before, call, reply, after),
         Call::Run {
             queue,
             features,
@@ -43,7 +44,7 @@ pub fn broken(
         .or_else(|| hyp::run(before, (queue, features), reply, after))
         .or_else(|| ranges::run(before, (queue, features), reply, after))
         .or_else(|| regions::run(before, (queue, features), reply, (after, tables))),
-        Call::Translate(_) | Call::State | Call::TableFill { .. } => {
+        Call::Translate(_) | Call::State | Call::TableFill { .. } | Call::WriteCommand { .. } => {
             (before != after).then_some("a call stored to a memory that it only reads")
         }
         Call::Fill { row, .. } => {

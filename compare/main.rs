@@ -4,9 +4,9 @@
 //! `model/` is written from the papers alone, by their rules and without the
 //! unit's code. `generate/` makes inputs whose rows and commands collide
 //! often, `phases/` decides which calls are made, and every call is made on both
-//! sides: the returned number, the eight answer words and each word of the kept
-//! memory and of the second table have to be the same. At the end a table says what
-//! was compared.
+//! sides: the returned number, the eight answer words, each word of the kept
+//! memory and of the second table and each byte of a slot or queue that is written
+//! have to be the same. At the end a table says what was compared.
 //!
 //! Build, with LIB the folder that holds the unit's static library libNAME.a:
 //!
@@ -17,6 +17,10 @@
 //! kind of call, end, refusal, outcome and reason occurred; 1 at the first
 //! difference, after printing what is needed to repeat it, or if the unit doesn't
 //! return; 2 if a kind never occurred or the arguments make no sense.
+//!
+//! `compare.out linux FILE FEATURES` takes the commands that a guest sent, 16 bytes each,
+//! has the model read and the unit write them (linux.rs), and exits 0 if they came back
+//! byte for byte, but for bits that aren't looked at.
 //!
 //! `compare.out wrong NAME` compares a wrong unit (wrong.rs) instead and has to
 //! exit 1; `compare.out wrong` does so for all of them and exits 0 if each was
@@ -30,6 +34,7 @@ mod interface;
 mod laws;
 mod lent;
 mod limits;
+mod linux;
 mod model;
 mod modelled;
 mod phases;
@@ -58,6 +63,11 @@ fn main() -> ExitCode {
     if arguments == ["wrong"] {
         return ExitCode::from(u8::from(!wrong::all_caught()));
     }
+    if let ["linux", file, features] = arguments[..] {
+        if let Some(features) = number(features) {
+            return linux::written_back(file, features);
+        }
+    }
     let named = |name: &str| wrong::all().into_iter().find(|wrong| wrong.name == name);
     let asked = match arguments[..] {
         [] => Some((DEFAULT_SEED, None)),
@@ -66,7 +76,7 @@ fn main() -> ExitCode {
         _ => None,
     };
     let Some((seed, wrong)) = asked else {
-        eprintln!("usage: compare [seed] | compare wrong [name]");
+        eprintln!("usage: compare [seed] | compare linux file features | compare wrong [name]");
         return ExitCode::from(2);
     };
     compare(seed, wrong)
@@ -76,6 +86,7 @@ fn main() -> ExitCode {
 fn compare(seed: u64, wrong: Option<Wrong>) -> ExitCode {
     println!("seed {seed:#x}");
     watchdog::start(seed);
+    let writes = wrong.as_ref().is_some_and(Wrong::writes);
     let mut checker = Checker::new(seed, wrong);
     phases::cases::cases(&mut checker);
     phases::reasons::cases::cases(&mut checker);
@@ -86,6 +97,12 @@ fn compare(seed: u64, wrong: Option<Wrong>) -> ExitCode {
     phases::ranges::cases::cases(&mut checker);
     phases::regions::cases::cases(&mut checker);
     phases::events::cases::cases(&mut checker);
+    phases::writer::cases::cases(&mut checker);
+    // No other wrong unit is caught by these, so that they come first for none but a
+    // wrong writer.
+    if writes {
+        phases::writer::writer(&mut checker);
+    }
     phases::regions::regions(&mut checker);
     phases::hyp::hyp(&mut checker);
     phases::events::events(&mut checker);
@@ -95,6 +112,9 @@ fn compare(seed: u64, wrong: Option<Wrong>) -> ExitCode {
     phases::upper::upper(&mut checker);
     phases::doubles::doubles(&mut checker);
     phases::ranges::ranges(&mut checker);
+    if !writes {
+        phases::writer::writer(&mut checker);
+    }
     phases::commands::sweeps(&mut checker);
     phases::formats::sweeps(&mut checker);
     phases::controls::sweeps(&mut checker);

@@ -1,7 +1,7 @@
 //! The model behind the C interface, watched by the tally.
 
 use crate::answers::{answer, filled, ran, reply, standing, transaction, translated, written};
-use crate::call::{Asked, Call, Reply, FIRST_EVENT};
+use crate::call::{Asked, Call, Reply, EVENT_CALLS, FIRST_EVENT};
 use crate::model::command::Features;
 use crate::model::control::Control;
 use crate::model::control_calls::{acknowledge, clear_pending, doorbell, enable};
@@ -12,10 +12,16 @@ use crate::model::run::{run, Report};
 use crate::model::state::state;
 use crate::model::table_fill::table_fill;
 use crate::model::transaction::{stream_row, translate, Outcome};
+use crate::model::writer::{write_batch, write_command};
 use crate::tally::Tally;
 
-/// Makes the call, and tells the tally what came of it.
-pub fn perform(call: Call, kept: &mut [u64], table: &mut [u64], tally: &mut Tally) -> Reply {
+/// Makes the call, and tells the tally what came of it. `bytes` are the slot or the
+/// queue that it writes.
+pub fn perform(
+    call: Call,
+    (kept, table, bytes): (&mut [u64], &mut [u64], &mut [u8]),
+    tally: &mut Tally,
+) -> Reply {
     let before = kept.first().copied().unwrap_or(0);
     let result = match call {
         Call::Run {
@@ -42,16 +48,25 @@ pub fn perform(call: Call, kept: &mut [u64], table: &mut [u64], tally: &mut Tall
             words,
             allowance,
         } => table_fill(kept, table, row, words, allowance).map(filled),
+        Call::WriteBatch { commands, features } => {
+            let features = Features::from_bits(features);
+            write_batch(kept, bytes, commands, features).map(|()| answer(&[]))
+        }
         Call::EventWrite { record, allowance } => recorded(kept, record, allowance),
         Call::EventRead => events::read(kept).map(|record| answer(&record)),
         Call::EventAcknowledge => events::acknowledge(kept).map(|()| answer(&[])),
+        Call::WriteCommand { fields, features } => {
+            let features = Features::from_bits(features);
+            write_command(bytes, fields, features).map(|()| answer(&[]))
+        }
     };
     let reply = reply(result);
     tally.count(&call, &reply);
-    match call.index() < FIRST_EVENT {
+    match call.index() {
         _ if reply.number != 0 => (),
-        true => tally.pending.count(&call, &reply, (before, kept[0])),
-        false => tally.events.count(&call, &reply, before),
+        0..FIRST_EVENT => tally.pending.count(&call, &reply, (before, kept[0])),
+        index if EVENT_CALLS.contains(&index) => tally.events.count(&call, &reply, before),
+        _ => (),
     }
     reply
 }

@@ -15,6 +15,9 @@ pub struct Scene<'a> {
     pub model: (Reply, &'a [u64]),
     /// What unit and model left in the second table, if that is known.
     pub tables: [&'a [u64]; 2],
+    /// The slot or queue before the call, and what unit and model left there.
+    pub bytes: &'a [u8],
+    pub written: [&'a [u8]; 2],
 }
 
 /// Prints the scene and ends the program.
@@ -28,6 +31,9 @@ pub fn stop(scene: &Scene, what: &str) -> ! {
     print_memory(scene.before);
     println!("second table, {} words:", scene.table.len());
     print_lines(scene.table, 2);
+    if !scene.bytes.is_empty() {
+        print_bytes("slots before the call", scene.bytes);
+    }
     for (side, (reply, _)) in [("unit", scene.unit), ("model", scene.model)] {
         let answer: Vec<String> = reply
             .answer
@@ -46,6 +52,11 @@ pub fn stop(scene: &Scene, what: &str) -> ! {
             println!("word {place} of the table: unit {theirs:#018x}, model {ours:#018x}");
         }
     }
+    for (place, (theirs, ours)) in scene.written[0].iter().zip(scene.written[1]).enumerate() {
+        if theirs != ours {
+            println!("byte {place} after the call: unit {theirs:#04x}, model {ours:#04x}");
+        }
+    }
     std::process::exit(1)
 }
 
@@ -58,9 +69,16 @@ fn print_call(call: &Call) {
             allowance,
         } => {
             println!(" features {features:#x} allowance {allowance:#x}");
-            let words: Vec<u64> = queue.chunks(8).map(little_endian).collect();
-            println!("queue of {} bytes:", queue.len());
-            print_lines(&words, 2);
+            print_bytes("queue", queue);
+        }
+        Call::WriteCommand { fields, features } => {
+            println!(" features {features:#x}, fields");
+            print_lines(fields, 4);
+        }
+        Call::WriteBatch { commands, features } => {
+            let count = commands.len();
+            println!(" features {features:#x}, commands of {count} words");
+            print_lines(commands, 4);
         }
         Call::Fill {
             row,
@@ -85,6 +103,12 @@ fn print_call(call: &Call) {
         Call::Acknowledge | Call::State | Call::ClearPending => println!(),
         Call::EventRead | Call::EventAcknowledge => println!(),
     }
+}
+
+fn print_bytes(what: &str, bytes: &[u8]) {
+    let words: Vec<u64> = bytes.chunks(8).map(little_endian).collect();
+    println!("{what}, {} bytes:", bytes.len());
+    print_lines(&words, 2);
 }
 
 fn little_endian(bytes: &[u8]) -> u64 {

@@ -8,8 +8,9 @@ mod pending;
 mod ranges;
 mod regions;
 mod upper;
+mod writer;
 
-use crate::call::{Call, Reply, FIRST_EVENT, NAMES};
+use crate::call::{Call, Reply, EVENT_CALLS, FIRST_EVENT, NAMES};
 use commands::Commands;
 use doubles::Doubles;
 use events::Events;
@@ -18,6 +19,7 @@ use pending::Pending;
 use ranges::Ranges;
 use regions::Regions;
 use upper::Upper;
+use writer::Writer;
 
 const RUN_ENDS: [&str; 5] = ["Off", "Held", "Empty", "Raised", "Cut"];
 const FILL_ENDS: [&str; 2] = ["Filled", "Cut"];
@@ -31,8 +33,8 @@ const OUTCOMES: [&str; 6] = [
 ];
 const CONFIGS: [usize; 5] = [0, 4, 5, 6, 7];
 /// The refusals that there are.
-const REFUSALS: [usize; 18] = [
-    1, 2, 3, 4, 5, 6, 7, 8, 9, 10, 11, 12, 13, 14, 15, 16, 17, 18,
+const REFUSALS: [usize; 22] = [
+    1, 2, 3, 4, 5, 6, 7, 8, 9, 10, 11, 12, 13, 14, 15, 16, 17, 18, 19, 20, 21, 22,
 ];
 const HIGHEST: usize = REFUSALS[REFUSALS.len() - 1];
 
@@ -53,6 +55,7 @@ pub struct Tally {
     pub ranges: Ranges,
     pub regions: Regions,
     pub events: Events,
+    pub writer: Writer,
     configs: [u64; 8],
     config_hits: [u64; 8],
 }
@@ -107,6 +110,7 @@ impl Tally {
         self.ranges.print(&mut table);
         self.regions.print(&mut table);
         self.events.print(&mut table);
+        self.writer.print(&mut table);
         table.missing
     }
 
@@ -145,7 +149,7 @@ impl Tally {
 fn refusable(call: usize, number: usize) -> bool {
     match number {
         1..=3 => call < FIRST_EVENT,
-        4 => NAMES[call] == "run",
+        4 => matches!(NAMES[call], "run" | "write_batch"),
         5 => NAMES[call] == "doorbell",
         6 => NAMES[call] == "acknowledge",
         7..=9 => matches!(NAMES[call], "fill" | "table_fill"),
@@ -155,7 +159,10 @@ fn refusable(call: usize, number: usize) -> bool {
         13 | 14 => matches!(NAMES[call], "run" | "table_fill"),
         17 => NAMES[call] == "event_read",
         18 => NAMES[call] == "event_acknowledge",
-        _ => call >= FIRST_EVENT,
+        19 => NAMES[call] == "write_command",
+        20 | 21 => matches!(NAMES[call], "write_batch" | "write_command"),
+        22 => NAMES[call] == "write_batch",
+        _ => EVENT_CALLS.contains(&call),
     }
 }
 

@@ -9,10 +9,11 @@ pub fn perform(call: Call, lent: &mut Memory, answer: &mut Lent) -> u64 {
     let (words, rows) = (lent.inner().len(), lent.table().len());
     let memory = lent.inner_mut().as_mut_ptr();
     let table = lent.table_mut().as_mut_ptr();
+    let (slots, length) = (lent.bytes_mut().as_mut_ptr(), lent.bytes().len());
     let answer = answer.inner_mut().as_mut_ptr();
     // SAFETY: the pointers come from live borrows of the lengths given beside
-    // them, eight words for the answer; those of memory, second table and answer are
-    // exclusive.
+    // them, eight words for the answer; those of memory, second table, bytes and answer
+    // are exclusive.
     unsafe {
         match call {
             Call::Run {
@@ -41,11 +42,18 @@ pub fn perform(call: Call, lent: &mut Memory, answer: &mut Lent) -> u64 {
                 words: [w0, w1],
                 allowance,
             } => tahvenno_table_fill(memory, words, table, rows, row, w0, w1, allowance, answer),
+            Call::WriteBatch { commands, features } => {
+                let (first, count) = (commands.as_ptr(), commands.len());
+                tahvenno_write_batch(memory, words, slots, length, first, count, features, answer)
+            }
             Call::EventWrite { record, allowance } => {
                 tahvenno_event_write(memory, words, record.as_ptr(), allowance, answer)
             }
             Call::EventRead => tahvenno_event_read(memory, words, answer),
             Call::EventAcknowledge => tahvenno_event_acknowledge(memory, words, answer),
+            Call::WriteCommand { fields, features } => {
+                tahvenno_write_command(slots, length, fields.as_ptr(), features, answer)
+            }
         }
     }
 }

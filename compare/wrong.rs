@@ -12,6 +12,7 @@ mod reasons;
 mod regions;
 mod seen;
 mod upper;
+mod writer;
 
 use crate::call::{Call, FIRST_EVENT, NAMES, NUMBERS};
 use crate::lent::{Lent, Memory};
@@ -59,6 +60,8 @@ enum Fault {
     Ranges(ranges::Fault),
     /// The second table is another.
     Regions(regions::Fault),
+    /// Commands and batches are written otherwise.
+    Writer(writer::Fault),
 }
 
 pub struct Wrong {
@@ -71,11 +74,12 @@ const TRANSLATE: usize = 5;
 const STATE: usize = 6;
 const TABLE_FILL: usize = 8;
 
-/// A call that the unit has answered: the memory and the second table before, the
-/// number, and what is lent, as the unit left it.
+/// A call that the unit has answered: the memory, the second table and the bytes before,
+/// the number, and what is lent, as the unit left it.
 struct Around<'a> {
     before: &'a [u64],
     table: &'a [u64],
+    bytes: &'a [u8],
     number: u64,
     kept: &'a mut Memory,
     answer: &'a mut Lent,
@@ -140,6 +144,9 @@ fn requests() -> Vec<Wrong> {
     for (name, fault) in regions::all() {
         add(name, Fault::Regions(fault));
     }
+    for (name, fault) in writer::all() {
+        add(name, Fault::Writer(fault));
+    }
     all
 }
 
@@ -194,6 +201,11 @@ fn caught(wrong: &Wrong) -> bool {
 }
 
 impl Wrong {
+    /// Whether it is a wrong writer.
+    pub fn writes(&self) -> bool {
+        matches!(self.fault, Fault::Writer(_))
+    }
+
     /// Makes the call as `unit::perform` does, with the fault.
     pub fn perform(&self, call: Call, kept: &mut Memory, answer: &mut Lent) -> u64 {
         match self.fault {
@@ -202,6 +214,7 @@ impl Wrong {
             Fault::Hyp(fault) => return fault.perform(call, kept, answer),
             Fault::Ranges(fault) => return fault.perform(call, kept, answer),
             Fault::Regions(fault) => return fault.perform(call, kept, answer),
+            Fault::Writer(fault) => return fault.perform(call, kept, answer),
             _ => (),
         }
         let before = kept.copy();
@@ -264,12 +277,13 @@ impl Wrong {
     ) -> u64 {
         let last = words(ROWS - 1);
         let row = answer.inner()[0];
-        let (before, table) = (before.inner(), before.table());
+        let (before, table, bytes) = (before.inner(), before.table(), before.bytes());
         match self.fault {
             Fault::Pending(_) | Fault::Events(_) => {
                 let around = Around {
                     before,
                     table,
+                    bytes,
                     number,
                     kept,
                     answer,
@@ -317,6 +331,7 @@ fn without_last(call: Call, kept: &mut Memory, answer: &mut Lent) -> u64 {
     let number = unit::perform(call, &mut copy, answer);
     kept.inner_mut()[..last].copy_from_slice(&copy.inner()[..last]);
     kept.table_mut().copy_from_slice(copy.table());
+    kept.bytes_mut().copy_from_slice(copy.bytes());
     number
 }
 

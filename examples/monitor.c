@@ -1,12 +1,12 @@
 /* A monitor's calls from C: two rows are filled, a command removes one of them, and a transaction asks before and after. A CMD_SYNC
- * behind that command asks for an interrupt. The access that misses is recorded as an event, and the event is read. */
+ * behind that command asks for an interrupt. The guest is the monitor's own, so a batch writes both into its queue and rings. The
+ * access that misses is recorded as an event, and the event is read. */
 #include <inttypes.h>
 #include <stdio.h>
 #include "tahvenno.h"
 
 #define CMD_TLBI_NSNH_ALL 0x30 /* the guest's command: remove every stage 1 and stage 2 row */
-#define CMD_SYNC 0x46
-#define CS_1 0x10 /* in its second byte: interrupt the guest when it is done */
+#define CMD_SYNC 0x46 /* with CS 1: interrupt the guest when it is done */
 #define F_TRANSLATION 0x10 /* the event's first byte; its fifth to eighth are the stream */
 #define FEATURES (TAHVENNO_S1P | TAHVENNO_S2P)
 #define WRITE_BACK TAHVENNO_NORMAL(TAHVENNO_WB, TAHVENNO_WB)
@@ -23,7 +23,12 @@ static uint64_t ask(const uint64_t *kept, uint64_t *answer) { /* a write by the 
 
 int main(void) {
     uint64_t kept[WORDS] = {TAHVENNO_PUT(TAHVENNO_LOG2SIZE, LOG2SIZE) | TAHVENNO_CMDQEN}; /* enabled, two slots; two empty rows */
-    uint8_t queue[TAHVENNO_QUEUE_BYTES(LOG2SIZE)] = {[0] = CMD_TLBI_NSNH_ALL, [TAHVENNO_SLOT_BYTES] = CMD_SYNC, CS_1};
+    uint8_t queue[TAHVENNO_QUEUE_BYTES(LOG2SIZE)] = {0};
+    const uint64_t commands[2 * TAHVENNO_COMMAND_WORDS] = {
+        [TAHVENNO_CMD_CODE] = CMD_TLBI_NSNH_ALL,
+        [TAHVENNO_COMMAND_WORDS + TAHVENNO_CMD_CODE] = CMD_SYNC,
+        [TAHVENNO_COMMAND_WORDS + TAHVENNO_CMD_CS] = 1,
+    };
     uint64_t table[TABLE_WORDS] = {0}; /* the second table, which this guest has no use for: one empty row */
     uint64_t events[EVENT_WORDS] = {TAHVENNO_PUT(TAHVENNO_EVENT_N, N)}; /* an empty recorder of four slots */
     const uint8_t record[TAHVENNO_RECORD_BYTES] = {[0] = F_TRANSLATION, [4] = STREAM};
@@ -36,7 +41,7 @@ int main(void) {
     refused |= tahvenno_fill(kept, WORDS, 1, page, 0, FROM, TO, TAHVENNO_ROW_WORDS, answer);
     refused |= ask(kept, answer);
     printf("before: outcome %" PRIu64 ", address %" PRIx64 "\n", answer[0], answer[1]);
-    refused |= tahvenno_doorbell(kept, WORDS, 2, answer);
+    refused |= tahvenno_write_batch(kept, WORDS, queue, sizeof queue, commands, 2 * TAHVENNO_COMMAND_WORDS, FEATURES, answer);
     do { /* one store a call, as if power went after each */
         refused |= tahvenno_run(kept, WORDS, table, TABLE_WORDS, queue, sizeof queue, FEATURES, 1, answer);
     } while (refused == 0 && answer[0] == TAHVENNO_CUT);

@@ -1,4 +1,5 @@
-//! A monitor's calls from Rust: the same as monitor.c. The constants are those of include/tahvenno.h.
+//! A monitor's calls from Rust: those of monitor.c, for a guest that writes its queue itself and rings the doorbell. The constants are
+//! those of include/tahvenno.h.
 extern "C" {
     fn tahvenno_fill(kept: *mut u64, words: usize, row: u64, w0: u64, w1: u64, w2: u64, w3: u64, allowance: u64, answer: *mut u64) -> u64;
     fn tahvenno_doorbell(kept: *mut u64, words: usize, wr: u64, answer: *mut u64) -> u64;

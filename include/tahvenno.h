@@ -5,28 +5,31 @@
  * MEMORY. The caller owns everything. `kept` points to the kept memory, `words` 64-bit words: one control word, then rows of four
  * words, 1 to TAHVENNO_MAX_ROWS of them; their layout is below. `table` points to the second table, `table_words` words: rows of
  * two words, 1 to TAHVENNO_MAX_REGIONS of them (REGIONS, below). `queue` points to the guest's command queue, `bytes` bytes of 16 a
- * slot. `events` points to the recorder's words, which are no part of the kept memory, and `record` to 32 bytes (THE RECORDER,
- * below). `answer` points to eight words that the call fills, those not named below with zero. The unit keeps no pointer and no
- * state of its own between calls, allocates nothing, and needs no function of a C library.
+ * slot, and `slot` to one of its slots; only the writers write there (WRITERS, below). `fields` points to the 16 words of one
+ * command, `commands` to those of several, `command_words` words. `events` points to the recorder's words, which are no part of the
+ * kept memory, and `record` to 32 bytes (THE RECORDER, below). `answer` points to eight words that the call fills, those not named
+ * below with zero. The unit keeps no pointer and no state of its own between calls, allocates nothing, and needs no function of a C
+ * library.
  *
  * The caller sees to this, since the proof takes it for granted:
  *
  *   - No pointer is null, also where a length is 0. What is lent to one call does not overlap.
- *   - kept, table, events and answer are aligned to 8 bytes. The queue and a record may stand anywhere in Normal memory; where a
- *     load that is not aligned faults (Device memory, alignment checking), align them to 8 bytes too: compiled code loads several
- *     of their bytes at once.
- *   - Until a call returns nobody else writes to what is lent to it. So lend a private copy of the guest's queue, or stop the
+ *   - kept, table, events, fields, commands and answer are aligned to 8 bytes. The queue, a slot and a record may stand anywhere in
+ *     Normal memory; where a load or store that is not aligned faults (Device memory, alignment checking), align them to 8 bytes
+ *     too: compiled code loads and stores several of their bytes at once.
+ *   - Until a call returns nobody else writes to what is lent to it. So lend a run a private copy of the guest's queue, or stop the
  *     guest: bytes that change during a call are outside the proof.
  *   - One call at a time on one kept memory and its second table, and on one recorder. docs/BOX.md has the rules for an agent that
  *     reads rows or records by itself.
  *
  * WHAT COMES BACK. Each call returns 0 if it was carried out, else the number of its refusal, and then not one word of kept
- * memory, of the second table or of the recorder has changed. Whatever the words and bytes are, a call ends and gives one of these:
+ * memory, of the second table or of the recorder has changed, nor a byte of a queue or slot. Whatever the words and bytes are, a
+ * call ends and gives one of these:
  *
  *    1  the length is not 1 + 4 N words, N from 1 to TAHVENNO_MAX_ROWS
  *    2  the control word is ill formed
  *    3  a row is ill formed; answer[0] is the lowest such row, counted from 0
- *    4  run: the queue's length is not 16 times 2^LOG2SIZE bytes
+ *    4  run, write_batch: the queue's length is not 16 times 2^LOG2SIZE bytes
  *    5  doorbell: wr is 2^(LOG2SIZE + 1) or more; or more commands would wait than the queue has slots; or fewer than wait now
  *    6  acknowledge: no error is active
  *    7  fill, table_fill: no such row
@@ -41,9 +44,15 @@
  *   16  the same three: the index word is ill formed, or its n is not that of the length
  *   17  event_read: no record waits
  *   18  event_acknowledge: no overflow is outstanding
+ *   19  write_command: the slot is not 16 bytes
+ *   20  write_command, write_batch: a command needs a feature that is absent; of a batch answer[0] is the command, counted from 0
+ *   21  the same two: the code is unknown, or a field is too wide, or not 0 though the command does not have it, or would make the
+ *       command illegal, or a batch's last command has fewer than 16 words; of a batch answer[0] is the command, counted from 0
+ *   22  write_batch: more commands than the queue has free slots
  *
  * 1, 2 and 3 are tried first, by every call on kept memory, then 13 and 14 by the calls that are lent the second table, then the
- * others in this order. The calls on the recorder give 15 to 18 only, in this order.
+ * others in this order; but a batch gets the 20 or 21 of its first bad command, whichever of the two that is. The calls on the
+ * recorder give 15 to 18 only, in this order, and write_command 19 to 21.
  *
  * ALLOWANCES. A run and a fill store single 64-bit words, in an order that does not depend on the allowance, and make at most
  * `allowance` of them: a call with allowance k leaves what a power cut after its k-th store leaves. A fill makes 4 stores, a
@@ -51,7 +60,7 @@
  * raises, so never more than there are used rows and waiting commands (TAHVENNO_MAX_STORES at most). For each command the rows of
  * the kept memory come first, then those of the second table, then the control word. An allowance of 0 makes no store: where one is
  * due the call ends Cut, and called so again it never gets further. An event_write has an allowance in the same sense. The other
- * calls store one word or none.
+ * calls store one word or none of kept memory, second table and recorder, and the writers bytes of a queue (WRITERS, below).
  *
  * A run that ended Cut goes on when it is called again, with the same second table. A fill does not, nor a table_fill: it starts
  * from its first store every time, and until its last store the row is empty. Repeated after it has finished, either is refused
@@ -115,6 +124,40 @@
  * consumed there would be cleared and never raised. If power goes between the two, the interrupt is raised once more after the
  * restart: each request is answered by at least one interrupt, and none is lost. tahvenno_state does not tell PENDING; it is read
  * in kept[0].
+ *
+ * WRITERS. They are for the one who owns a queue, such as the caller's own guest; a guest that writes its queue itself rings by
+ * doorbell. write_command writes the 16 bytes of one command into a slot. write_batch writes any number of commands into the free
+ * slots from WR on, going round behind the last slot, and then rings: one store of the control word moves WR past them. A command
+ * is 16 words, its code and its fields as numbers (TAHVENNO_CMD_CODE and so on; codes in hexadecimal):
+ *
+ *   word  field        bits  the codes that have it
+ *      0  code            8  01 to 06, 10 to 13, 20 to 23, 28, 2A, 30, 46, 70 and 73
+ *      1  StreamID       32  03, 04, 05, 06
+ *      2  SubstreamID    20  05
+ *      3  Range           5  04
+ *      4  Leaf            1  03, 05, 12, 13, 22, 23, 2A, 73
+ *      5  VMID           16  10 to 13, where it has to be 0 without TAHVENNO_S2P; 28, 2A
+ *      6  ASID           16  11, 12, 21, 22
+ *      7  Address        52  12, 13, 22, 23; 2A, of 40 bits; 73, of 44 bits: the address without its low 12 bits
+ *      8  CS              2  46, and not 3
+ *      9  NUM             5  12, 13, 22, 23, 2A, with TAHVENNO_RIL (RANGES, above)
+ *     10  SCALE           5  the same
+ *     11  TG              2  the same
+ *     12  TTL             2  the same
+ *     13  TTL128          1  the same
+ *     14  SIZE            4  73
+ *     15  none; it is 0
+ *
+ * What a code has no field for has to be 0. The features are those that the queue's runs are passed: 05, 06 and 10 to 13 need
+ * TAHVENNO_S1P, 28 and 2A TAHVENNO_S2P, 20 to 23 TAHVENNO_HYP and TAHVENNO_S1P, 70 and 73 TAHVENNO_DPT. So what is written is legal
+ * for a run with the same features. That goes for an ASID or VMID of more than 8 bits without TAHVENNO_ASID16 or TAHVENNO_VMID16
+ * too: it is written, and removes nothing. Bits that a run does not look at are written as 0.
+ *
+ * write_batch has no allowance. It stores every byte of its commands before the control word, in single stores of any size, and to
+ * no other slot. So if power goes inside it and WR has not moved, the queue, where it survives, holds a part of them in free slots,
+ * of which no run knows; call it again from the start. If WR has moved, the batch was sent, and called again it is there twice, or
+ * is refused with 22. docs/BOX.md has what to do where the bytes could arrive after the control word. A batch that was refused has
+ * written nothing. A batch of no commands stores the control word as it is.
  *
  * THE RECORDER is a ring of records of 32 bytes, in words of its own; no call takes both these and the kept memory. event_write
  * makes 5 stores: the record's four words, the first one first, to the slot at WR, then the index word with WR one further. Until
@@ -180,6 +223,7 @@ extern "C" {
 #define TAHVENNO_MAX_STORES (TAHVENNO_MAX_ROWS + TAHVENNO_MAX_REGIONS + (1 << TAHVENNO_MAX_LOG2SIZE))
 #define TAHVENNO_SLOT_BYTES 16
 #define TAHVENNO_QUEUE_BYTES(log2size) ((size_t)TAHVENNO_SLOT_BYTES << (log2size))
+#define TAHVENNO_COMMAND_WORDS 16
 #define TAHVENNO_ANSWER_WORDS 8
 
 /* Of the recorder in words, of a record in bytes; the stores of an event_write. */
@@ -348,6 +392,25 @@ enum {
 #define TAHVENNO_DPT UINT64_C(64)
 #define TAHVENNO_E2H UINT64_C(128)
 
+/* The words of a command as the writers take it; the last of the 16 is 0. */
+enum {
+    TAHVENNO_CMD_CODE,
+    TAHVENNO_CMD_STREAM,
+    TAHVENNO_CMD_SUBSTREAM,
+    TAHVENNO_CMD_RANGE,
+    TAHVENNO_CMD_LEAF,
+    TAHVENNO_CMD_VMID,
+    TAHVENNO_CMD_ASID,
+    TAHVENNO_CMD_ADDRESS,
+    TAHVENNO_CMD_CS,
+    TAHVENNO_CMD_NUM,
+    TAHVENNO_CMD_SCALE,
+    TAHVENNO_CMD_TG,
+    TAHVENNO_CMD_TTL,
+    TAHVENNO_CMD_TTL128,
+    TAHVENNO_CMD_SIZE
+};
+
 /* How a run ends, in answer[0]. */
 enum { TAHVENNO_OFF, TAHVENNO_HELD, TAHVENNO_EMPTY, TAHVENNO_RAISED, TAHVENNO_CUT };
 
@@ -414,6 +477,15 @@ uint64_t tahvenno_translate(const uint64_t *kept, size_t words, uint32_t stream,
 
 /* answer: RD, WR, ERR, whether an error is active (0 or 1), whether the queue is enabled (0 or 1), used rows. */
 uint64_t tahvenno_state(const uint64_t *kept, size_t words, uint64_t answer[8]);
+
+/* Writes a command into a slot, which is 16 bytes: `bytes` is its length. Kept memory is not looked at, so that the slot is free is
+ * the caller's business, and so is the doorbell. */
+uint64_t tahvenno_write_command(uint8_t *slot, size_t bytes, const uint64_t fields[16], uint64_t features, uint64_t answer[8]);
+
+/* Writes commands, 16 words each, into the free slots from WR on, and moves WR past them by one store after the last byte. The
+ * queue is `bytes` bytes, all of it; of its other slots none is written. Rows are only read. */
+uint64_t tahvenno_write_batch(uint64_t *kept, size_t words, uint8_t *queue, size_t bytes, const uint64_t *commands,
+                              size_t command_words, uint64_t features, uint64_t answer[8]);
 
 /* Records an event: 32 bytes, which are four little-endian words. answer: the end, stores made. */
 uint64_t tahvenno_event_write(uint64_t *events, size_t words, const uint8_t record[32], uint64_t allowance, uint64_t answer[8]);

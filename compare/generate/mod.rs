@@ -4,6 +4,7 @@ pub mod commands;
 pub mod damage;
 pub mod doubles;
 pub mod events;
+pub mod fields;
 pub mod images;
 pub mod random;
 pub mod ranges;

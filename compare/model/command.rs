@@ -102,7 +102,7 @@ fn reserved_bit_set(low: u64, high: u64, names: &[Bits], features: Features) -> 
 }
 
 /// The features that a code can't do without.
-fn supported(code: u64, features: Features) -> bool {
+pub fn supported(code: u64, features: Features) -> bool {
     match code {
         0x05 | 0x06 | 0x10..=0x13 => features.s1p,
         0x20..=0x23 => features.s1p && features.hyp,

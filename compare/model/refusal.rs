@@ -1,5 +1,5 @@
 //! The ways of saying no (document 01, When the unit says no; document 02, T-01,
-//! T-02, T-08 and T-11).
+//! T-02, T-08, T-10 and T-11).
 
 #[derive(Clone, Copy, Debug, PartialEq, Eq)]
 pub enum Refusal {
@@ -23,6 +23,13 @@ pub enum Refusal {
     EventsIndex,
     NoEvent,
     NoOverflow,
+    SlotLength,
+    /// A feature that a command needs is missing. Carries the command's number in its
+    /// batch, counted from 0.
+    FeatureAbsent(usize),
+    /// A command's fields make none that is legal. Carries its number, too.
+    Fields(usize),
+    NoRoom,
 }
 
 impl Refusal {
@@ -46,6 +53,10 @@ impl Refusal {
             Refusal::EventsIndex => 16,
             Refusal::NoEvent => 17,
             Refusal::NoOverflow => 18,
+            Refusal::SlotLength => 19,
+            Refusal::FeatureAbsent(_) => 20,
+            Refusal::Fields(_) => 21,
+            Refusal::NoRoom => 22,
         }
     }
 }

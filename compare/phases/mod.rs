@@ -17,6 +17,7 @@ pub mod regions;
 pub mod sequences;
 pub mod single;
 pub mod upper;
+pub mod writer;
 
 use crate::call::Call;
 use crate::model::control::Control;

@@ -5,7 +5,7 @@ mod refusals;
 mod writes;
 
 use super::Around;
-use crate::call::{Call, Reply, FIRST_EVENT, WRITE_CUT};
+use crate::call::{Call, Reply, EVENT_CALLS, WRITE_CUT};
 use crate::generate::random::Random;
 use crate::lent::{Lent, Memory};
 use crate::model::events::Index;
@@ -58,7 +58,7 @@ impl Fault {
     /// Puts the fault into a call that the unit has answered; the number that is
     /// returned then.
     pub fn spoil(self, call: Call, around: Around) -> u64 {
-        if call.index() < FIRST_EVENT {
+        if !EVENT_CALLS.contains(&call.index()) {
             return around.number;
         }
         let mut made = Made {

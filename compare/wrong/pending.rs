@@ -194,6 +194,7 @@ impl Fault {
         let Around {
             before,
             table,
+            bytes,
             number,
             kept,
             answer,
@@ -205,6 +206,7 @@ impl Fault {
             (Fault::IllFormed(of), _) if of == call.index() && number != 1 && was => {
                 kept.inner_mut().copy_from_slice(before);
                 kept.table_mut().copy_from_slice(table);
+                kept.bytes_mut().copy_from_slice(bytes);
                 answer.inner_mut().fill(0);
                 return 2;
             }

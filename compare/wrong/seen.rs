@@ -19,6 +19,7 @@ pub fn seen(call: Call, memory: &mut Memory, answer: &mut Lent, see: impl Fn(Row
     let mut copy = memory.beside(&before);
     let number = unit::perform(call, &mut copy, answer);
     memory.table_mut().copy_from_slice(copy.table());
+    memory.bytes_mut().copy_from_slice(copy.bytes());
     let stored = copy.inner().iter().zip(&before);
     for (word, (new, old)) in memory.inner_mut().iter_mut().zip(stored) {
         if new != old {

@@ -11,6 +11,7 @@ mod tables;
 use super::{bytes, waiting};
 use crate::call::{Asked, Call};
 use crate::checker::Checker;
+use crate::generate::fields::with;
 use crate::generate::rows::{cd, cd_table, ste, Reach, Words, STAGE1, STAGE2};
 use crate::limits::ROWS;
 
@@ -147,6 +148,14 @@ pub fn every_call(checker: &mut Checker, kept: &[u64], queue: &[u8]) {
     for call in calls {
         checker.call(&mut kept.to_vec(), call);
     }
+    let sync = with(0x46, &[]);
+    for commands in [&[][..], &sync] {
+        let call = Call::WriteBatch {
+            commands,
+            features: ALL,
+        };
+        checker.write(&mut kept.to_vec(), &mut queue.to_vec(), call);
+    }
 }
 
 /// The calls with what each of them alone refuses; the memory has neither an
@@ -184,5 +193,12 @@ fn every_refused(checker: &mut Checker, kept: &[u64]) {
     ];
     for call in calls {
         checker.call(&mut kept.to_vec(), call);
+    }
+    for commands in [&[][..], &[0]] {
+        let call = Call::WriteBatch {
+            commands,
+            features: ALL,
+        };
+        checker.write(&mut kept.to_vec(), &mut [], call);
     }
 }

@@ -1,14 +1,15 @@
 //! Recorders that are refused, or not, or for another reason.
 
 use super::{Fault, Made};
-use crate::call::{FIRST_EVENT, NAMES};
+use crate::call::{EVENT_CALLS, FIRST_EVENT, NAMES};
 use crate::limits::{event_words, EVENTS};
 use crate::model::events::Index;
 
 /// Those that are of one call, one bit or two refusals.
 pub fn all() -> Vec<(String, Fault)> {
     let mut all = Vec::new();
-    for (call, name) in NAMES.iter().enumerate().skip(FIRST_EVENT) {
+    for call in EVENT_CALLS {
+        let name = NAMES[call];
         all.push((format!("{name}: bit 47 accepted"), Fault::Unread(call, 47)));
     }
     for bit in 48..64 {

@@ -17,10 +17,14 @@ use Rattle.event_calls.specs.Calls as event-calls
 use Rattle.transactions.specs.declared.Transaction.{Transaction}
 use Rattle.transactions.specs.Call as transactions
 use Rattle.image_state.specs.States as states
+use Rattle.writer.specs.Writing as writer
+use Rattle.batch_writes.specs.Batch as batch
+use Rattle.batch_writes.specs.Batch.{Lent}
 use Rattle.interface.specs.declared.Reply.{Reply}
 use Rattle.interface.specs.Replies.{runReply, fillReply, doorbellReply, acknowledgeReply, clearReply, enableReply, translateReply, stateReply}
 use Rattle.interface.specs.Recorded.{eventWriteReply, eventReadReply, eventAcknowledgeReply}
 use Rattle.interface.specs.Tables.{tableFillReply}
+use Rattle.interface.specs.Writers.{writeReply, batchReply}
 use Rattle.host.specs.Told.{telling}
 
 -- with document 02, T-11: the kept memory and the second table
@@ -64,3 +68,10 @@ translate t m = translateReply (transactions.translate m t)
 
 abbrev pub state : List ℕ → Reply
 state m = stateReply (states.stateOf m)
+
+-- document 02, T-10: the slot, or the kept memory and the queue, are what is left
+abbrev pub writeCommand : List ℕ → ℕ → List ℕ → Outcome (List ℕ) Reply
+writeCommand fields features slot = telling writeReply (writer.write (featuresOf features) fields slot)
+
+abbrev pub writeBatch : List ℕ → ℕ → Lent → Outcome Lent Reply
+writeBatch commands features m = telling batchReply (batch.writeBatch (featuresOf features) commands m)

@@ -6,8 +6,9 @@ use regions::Region;
 use rows::Row;
 ghost use Rattle.interface.specs.Asked.{transactionOf};
 ghost use Rattle.memory.specs.Memory.{both};
+ghost use Rattle.batch_writes.specs.Batch.{lent};
 ghost use Rattle.host.specs.Told.{Told, Leaves};
-ghost use Rattle.host.specs.Calls.{run, fill, tableFill, doorbell, acknowledge, clearPending, enable, eventWrite, eventRead, eventAcknowledge, translate, state};
+ghost use Rattle.host.specs.Calls.{run, fill, tableFill, doorbell, acknowledge, clearPending, enable, eventWrite, eventRead, eventAcknowledge, translate, state, writeCommand, writeBatch};
 
 // Puts a reply's words into the answer, and hands back its number.
 fn tell(answer: &mut [u64; 8], reply: Reply) -> u64
@@ -171,4 +172,37 @@ pub extern "C" fn tahvenno_event_acknowledge(events: &mut [u64], answer: &mut [u
 {
     let a = event_calls::acknowledge(&mut *events);
     tell(&mut *answer, interface::event_acknowledge_reply(a))
+}
+
+// A command written by its fields. Nothing is kept: the slot is the caller's.
+#[no_mangle]
+pub extern "C" fn tahvenno_write_command(
+    slot: &mut [u8],
+    fields: &[u64; 16],
+    features: u64,
+    answer: &mut [u64; 8],
+) -> u64
+    ensures { λ r. ⌜ Leaves (writeCommand (now (fields .entry)) features (now (slot .entry))) (now (slot .exit)) (now (answer .exit)) r ⌝ }
+{
+    let a = writer::write(&mut *slot, fields, commands::features_of(features));
+    tell(&mut *answer, interface::write_reply(a))
+}
+
+#[no_mangle]
+pub extern "C" fn tahvenno_write_batch(
+    kept: &mut [u64],
+    queue: &mut [u8],
+    commands: &[u64],
+    features: u64,
+    answer: &mut [u64; 8],
+) -> u64
+    ensures { λ r. ⌜ Leaves (writeBatch (now (commands .entry)) features (lent (now (kept .entry)) (now (queue .entry)))) (lent (now (kept .exit)) (now (queue .exit))) (now (answer .exit)) r ⌝ }
+{
+    let a = batch_writes::write_batch(
+        &mut *kept,
+        &mut *queue,
+        commands,
+        commands::features_of(features),
+    );
+    tell(&mut *answer, interface::batch_reply(a))
 }

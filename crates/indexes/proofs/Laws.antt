@@ -3,7 +3,7 @@
 use mathlib.Core.Path.{_≡_, refl, sym, ap, _∙_}
 use mathlib.Core.Bool.{Bool, true, _&&_}
 use Prim.Native.Nat.{ℕ, zero, suc, _+_, _-_, _*_, _%_, _^_, _≤_, _<_}
-use native.Mathlib.Nat.{mod-eq-of-lt, mod-lt, mod-le, mod-mod, mod-add-mod, add-mod-mod, add-mod-left, add-mod-right, le-of-lt}
+use native.Mathlib.Nat.{mod-eq-of-lt, mod-lt, mod-le, mod-mod, mod-add-mod, add-mod-mod, add-mod-left, add-mod-right, add-comm, le-of-lt}
 use native.Mathlib.Omega.{arith}
 use lib.Dec.{leb, ltb}
 use lib.Pow.{pow-pos, pow-add, mod-mod-pow}
@@ -78,14 +78,45 @@ module _ (n : ℕ) where
       ∙ sym (mod-add-mod (distance n rd wr + rd) t 1) ∙ ap (λ (k : ℕ). (k + 1) % t) (arrives rd wr)
       ∙ mod-add-mod wr t 1 ∙ sym (mod-mod (wr + 1) t))
 
+  -- k more wait after an index k on from WR
+  pub distance-on : (rd wr k : ℕ) → distance n rd wr + k < turn n → distance n rd ((wr + k) % turn n) ≡ distance n rd wr + k
+  distance-on rd wr k small =
+      let t = turn n in
+      let d = distance n rd wr in
+      is-distance (d + k) rd ((wr + k) % t) small
+      (ap (λ (x : ℕ). x % t) (let s : d + k + rd ≡ d + rd + k = omega arith in s) ∙ sym (mod-add-mod (d + rd) t k)
+      ∙ ap (λ (x : ℕ). (x + k) % t) (arrives rd wr) ∙ mod-add-mod wr t k ∙ sym (mod-mod (wr + k) t))
+
   -- the slot is the same after a turn
-  slot-turn : (i : ℕ) → slot n (i % turn n) ≡ slot n i
+  pub slot-turn : (i : ℕ) → slot n (i % turn n) ≡ slot n i
   unfolding slot
   slot-turn i = ap (λ (k : ℕ). i % 2 ^ k % slots n) (let s : n + 1 ≡ 1 + n = omega arith in s) ∙ mod-mod-pow i 1 n
 
   -- the distance on from an index's slot comes to WR's
   slot-arrives : (i wr : ℕ) → slot n (distance n i wr + i) ≡ slot n wr
   slot-arrives i wr = sym (slot-turn (distance n i wr + i)) ∙ ap (slot n) (arrives i wr) ∙ slot-turn wr
+
+  -- of a full queue from an index on, no two have the same slot
+  pub slots-differ : (from i j : ℕ) → i < slots n → j < slots n → slot n (from + i) ≡ slot n (from + j) → i ≡ j
+  unfolding slot
+  slots-differ from i j p q e =
+      let s = slots n in
+      let x = (from + j) % s in
+      let at : (k : ℕ) → k < s → (from + k) % s ≡ x → k ≡ (x + s - from % s) % s =
+      λ k h g. the-way s k (from % s) x h (le-of-lt (mod-lt from (pow-pos n)))
+      (add-mod-mod k from s ∙ ap (λ (y : ℕ). y % s) (add-comm k from) ∙ g ∙ sym (mod-mod (from + j) s)) in
+      at i p e ∙ sym (at j q refl)
+
+  -- from WR on is as from RD on, behind those that wait
+  pub slot-ahead : (rd wr i : ℕ) → slot n (wr + i) ≡ slot n (rd + (distance n rd wr + i))
+  slot-ahead rd wr i =
+      let t = turn n in
+      let d = distance n rd wr in
+      sym (slot-turn (wr + i))
+      ∙ ap (slot n)
+      (sym (mod-add-mod wr t i) ∙ ap (λ (x : ℕ). (x + i) % t) (sym (arrives rd wr)) ∙ mod-add-mod (d + rd) t i
+      ∙ ap (λ (x : ℕ). x % t) (let s : d + rd + i ≡ rd + (d + i) = omega arith in s))
+      ∙ slot-turn (rd + (d + i))
 
   -- an index behind WR by less than a full queue has another slot than WR's
   pub slot-apart : (i wr : ℕ) → 0 < distance n i wr → distance n i wr < slots n → slot n i ≡ slot n wr → ⊥

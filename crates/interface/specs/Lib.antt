@@ -2,3 +2,4 @@ pub mod Asked
 pub mod Replies
 pub mod Recorded
 pub mod Tables
+pub mod Writers

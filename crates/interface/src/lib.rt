@@ -3,6 +3,7 @@ mod answers;
 mod asked;
 mod recorded;
 mod tables;
+mod writers;
 
 pub use answers::acknowledge_reply;
 pub use answers::clear_reply;
@@ -17,6 +18,8 @@ pub use recorded::event_acknowledge_reply;
 pub use recorded::event_read_reply;
 pub use recorded::event_write_reply;
 pub use tables::table_fill_reply;
+pub use writers::batch_reply;
+pub use writers::write_reply;
 
 // The number that a call returns, 0 or its refusal's, and the eight words of its answer.
 pub struct Reply {

@@ -22,3 +22,4 @@ pub mod Numbers
 pub mod Recorder
 pub mod Marks
 pub mod Ranges
+pub mod Written

@@ -3,11 +3,11 @@
 use mathlib.Core.Path.{_≡_, refl, sym, ap, _∙_}
 use mathlib.Core.Bool.{Bool, true, false, not}
 use mathlib.Core.List.{List, [], _∷_, _++_}
-use Prim.Native.Nat.{ℕ}
-use lib.Dec.{leb}
-use lib.ListN.{getD}
+use Prim.Native.Nat.{ℕ, _*_, _^_}
+use lib.Dec.{eqb, leb, ltb}
+use lib.ListN.{length, getD, set}
 use Rattle.words.specs.Choice.{pick}
-use Rattle.words.specs.Outcomes.{Outcome}
+use Rattle.words.specs.Outcomes.{Outcome, with}
 use Rattle.words.specs.Search.{lowest}
 use Rattle.words.specs.declared.Found.{Found}
 use Rattle.words.specs.declared.Found.the-variants.{At, Nothing}
@@ -46,7 +46,18 @@ use Rattle.regions.specs.Table as regions
 use Rattle.regions.proofs.Checks.{by-rows as regions·by-rows, says as regions·says, rows-are as regions·rows-are}
 use Rattle.region_fills.specs.declared.FillAnswer.{FillAnswer as region·FillAnswer}
 use Rattle.region_fills.specs.Fills as region-fills
-use Rattle.promises.specs.Numbers.{runNumber, fillNumber, tableFillNumber, doorbellNumber, acknowledgeNumber, clearNumber, enableNumber, translateNumber, Rule, first, some, ofImage, ofTable, ofRun, ofDoorbell, ofAcknowledge, ofClear, ofFill, ofTableFill, ofTransaction, runEnds, fillEnds}
+use Rattle.writer.specs.declared.Fault.the-variants.{Missing, Unfit}
+use Rattle.writer.specs.declared.Verdict.the-variants.{Fit, Faulty}
+use Rattle.writer.specs.declared.WriteAnswer.{WriteAnswer}
+use Rattle.writer.specs.Writing as writer
+use Rattle.batch_writes.specs.declared.Judged.{Judged}
+use Rattle.batch_writes.specs.declared.Judged.the-variants.{AllFit, Bad}
+use Rattle.batch_writes.specs.declared.BatchRefusal.the-variants.{NoRoom}
+use Rattle.batch_writes.specs.declared.BatchAnswer.{BatchAnswer}
+use Rattle.batch_writes.specs.declared.BatchAnswer.the-variants.{Rung as Batched}
+use Rattle.batch_writes.specs.Batch as batch
+use Rattle.batch_writes.specs.Batch.{Lent}
+use Rattle.promises.specs.Numbers.{runNumber, fillNumber, tableFillNumber, doorbellNumber, acknowledgeNumber, clearNumber, enableNumber, translateNumber, Rule, first, some, ofImage, ofTable, ofRun, ofDoorbell, ofAcknowledge, ofClear, ofFill, ofTableFill, ofTransaction, runEnds, fillEnds, writeNumber, ofWrite, batchNumber, firstLacks, firstUnfit, ofBatch}
 
 -- 1, 2 and 3, and then the numbers of the call's own
 module _ {A : Type 0} (m : List ℕ) (number : A → ℕ) (refuses : Refusal → A) (goes-on : ℕ → A) (rules : List Rule)
@@ -171,3 +182,44 @@ run-ends told Cut g = refl
 pub fill-ends : (e : FillEnd) → getD fillEnds (fills.endNumber e) Fill·Cut ≡ e
 fill-ends Filled = refl
 fill-ends Fill·Cut = refl
+
+-- document 02, T-10
+pub write-number : (f : Features) (d slot : List ℕ) → writeNumber (writer.write f d slot .answer) ≡ first (ofWrite f d slot)
+unfolding writer.write writer.judged
+write-number f d slot =
+    through number (not (eqb (length slot) writer.slotSize)) _ _
+    ∙ ap (pick (not (eqb (length slot) writer.slotSize)) 19) (by-tests (writer.lacks f d) (writer.unfit f d))
+  where
+    number : Outcome (List ℕ) WriteAnswer → ℕ
+    number = ofAnswer writeNumber
+
+    by-tests : (a b : Bool) → number (writer.byVerdict slot (pick a (Faulty Missing) (pick b (Faulty Unfit) (Fit (writer.split (writer.encoded d)))))) ≡ pick a 20 (pick b 21 0)
+    by-tests true b = refl
+    by-tests false true = refl
+    by-tests false false = refl
+
+pub batch-number : (f : Features) (ws : List ℕ) (m : Lent) → batchNumber (batch.writeBatch f ws m .answer) ≡ first (ofImage (m .kept) ++ ofBatch f ws m)
+unfolding batch.writeBatch
+batch-number f ws m =
+    image-first (m .kept) number _ _ (ofBatch f ws m) (λ why. refl)
+    (λ rows e. through number (not (eqb (length (m .queue)) (writer.slotSize * 2 ^ control.log2size w))) _ _
+    ∙ ap (pick (not (eqb (length (m .queue)) (writer.slotSize * 2 ^ control.log2size w))) 4) (by-judged (batch.judgedFrom f ws n 0)))
+  where
+    number : Outcome Lent BatchAnswer → ℕ
+    number = ofAnswer batchNumber
+
+    w : ℕ
+    w = image.controlOf (m .kept)
+
+    n : ℕ
+    n = batch.commandsIn ws
+
+    by-room : (b : Bool) → number (pick b (batch.refused NoRoom m) (with Batched (batch.lent (set (m .kept) 0 (batch.movedOn w n)) (batch.placed ws w (m .queue) n)))) ≡ pick b 22 0
+    by-room true = refl
+    by-room false = refl
+
+    by-judged : (j : Judged) → number (batch.byJudged j m (pick (ltb (batch.freeIn w) n) (batch.refused NoRoom m) (with Batched (batch.lent (set (m .kept) 0 (batch.movedOn w n)) (batch.placed ws w (m .queue) n)))))
+        ≡ pick (firstLacks j) 20 (pick (firstUnfit j) 21 (pick (ltb (batch.freeIn w) n) 22 0))
+    by-judged AllFit = by-room (ltb (batch.freeIn w) n)
+    by-judged (Bad i Missing) = refl
+    by-judged (Bad i Unfit) = refl

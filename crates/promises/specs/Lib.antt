@@ -14,3 +14,4 @@ pub mod Pending
 pub mod Recorder
 pub mod Ranges
 pub mod Legal
+pub mod Written

@@ -2,8 +2,9 @@
 -- Assumes nothing.
 use mathlib.Core.Bool.{Bool, true, false, not}
 use mathlib.Core.List.{List, [], _∷_}
-use Prim.Native.Nat.{ℕ}
-use lib.Dec.{leb}
+use Prim.Native.Nat.{ℕ, _*_, _^_}
+use lib.Dec.{eqb, leb, ltb}
+use lib.ListN.{length}
 use Rattle.words.specs.Choice.{pick}
 use Rattle.words.specs.Search.{lowest}
 use Rattle.words.specs.declared.Found.{Found}
@@ -44,6 +45,17 @@ use Rattle.regions.specs.Table as regions
 use Rattle.region_fills.specs.declared.FillAnswer.{FillAnswer as region·FillAnswer}
 use Rattle.region_fills.specs.declared.FillAnswer.the-variants.{Refused as NotTableFilled, Done as DidTableFill}
 use Rattle.region_fills.specs.Fills as region-fills
+use Rattle.commands.specs.declared.Features.{Features}
+use Rattle.writer.specs.declared.Fault.the-variants.{Missing, Unfit}
+use Rattle.writer.specs.declared.WriteAnswer.{WriteAnswer}
+use Rattle.writer.specs.declared.WriteAnswer.the-variants.{Refused as NotWritten, Written}
+use Rattle.writer.specs.Writing as writer
+use Rattle.batch_writes.specs.declared.Judged.{Judged}
+use Rattle.batch_writes.specs.declared.Judged.the-variants.{AllFit, Bad}
+use Rattle.batch_writes.specs.declared.BatchAnswer.{BatchAnswer}
+use Rattle.batch_writes.specs.declared.BatchAnswer.the-variants.{Refused as NotBatched, Rung as Batched}
+use Rattle.batch_writes.specs.Batch as batch
+use Rattle.batch_writes.specs.Batch.{Lent}
 
 -- the number of an answer: its refusal's, or 0 where the call was carried out
 abbrev pub runNumber : RunAnswer → ℕ
@@ -143,3 +155,39 @@ runEnds told = Off ∷ Held ∷ Empty ∷ Raised told ∷ Cut ∷ []
 
 abbrev pub fillEnds : List FillEnd
 fillEnds = Filled ∷ Fill·Cut ∷ []
+
+-- document 02, T-10: the writer's, which looks at no image, and the batch's, of which 20 or 21 is the first bad command's
+abbrev pub writeNumber : WriteAnswer → ℕ
+writeNumber (NotWritten why) = writer.number why
+writeNumber Written = 0
+
+abbrev pub ofWrite : Features → List ℕ → List ℕ → List Rule
+ofWrite f d slot =
+    record { number = 19; applies = not (eqb (length slot) writer.slotSize) }
+    ∷ record { number = 20; applies = writer.lacks f d }
+    ∷ record { number = 21; applies = writer.unfit f d }
+    ∷ []
+
+abbrev pub batchNumber : BatchAnswer → ℕ
+batchNumber (NotBatched why) = batch.number why
+batchNumber Batched = 0
+
+abbrev pub firstLacks : Judged → Bool
+firstLacks AllFit = false
+firstLacks (Bad i Missing) = true
+firstLacks (Bad i Unfit) = false
+
+abbrev pub firstUnfit : Judged → Bool
+firstUnfit AllFit = false
+firstUnfit (Bad i Missing) = false
+firstUnfit (Bad i Unfit) = true
+
+abbrev pub ofBatch : Features → List ℕ → Lent → List Rule
+ofBatch f ws m =
+    let w = image.controlOf (m .kept) in
+    let n = batch.commandsIn ws in
+    record { number = 4; applies = not (eqb (length (m .queue)) (writer.slotSize * 2 ^ control.log2size w)) }
+    ∷ record { number = 20; applies = firstLacks (batch.judgedFrom f ws n 0) }
+    ∷ record { number = 21; applies = firstUnfit (batch.judgedFrom f ws n 0) }
+    ∷ record { number = 22; applies = ltb (batch.freeIn w) n }
+    ∷ []

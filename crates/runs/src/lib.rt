@@ -5,6 +5,7 @@ use commands::Features;
 use due::Raising;
 use image::Checked;
 use image::Refusal;
+pub use running::queue_good;
 ghost use Rattle.words.specs.Outcomes.{Gives};
 ghost use Rattle.memory.specs.Memory.{both};
 ghost use Rattle.runs.specs.Call.{call};

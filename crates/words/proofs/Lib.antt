@@ -3,6 +3,7 @@ pub mod Parts
 pub mod Table
 pub mod Masks
 pub mod TwoWords
+pub mod Bits
 pub mod Bytes
 pub mod Search
 pub mod Spans

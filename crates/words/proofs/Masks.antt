@@ -6,7 +6,7 @@ use Prim.Native.Nat.{ℕ, zero, suc, _+_, _*_, _/_, _%_, _^_, _≤_, _<_, min}
 use native.Mathlib.Nat.{mod-lt, div-one, div-div-eq-div-mul, div-lt-iff-lt-mul, pow-suc, mul-comm, div-add-mod'}
 use native.Mathlib.Omega.{arith}
 use lib.Arith.{lt-one}
-use lib.Bits.{bitAnd, and-step, and-shr, and-mod, and-le-r}
+use lib.Bits.{bitAnd, and-step, and-comm, and-shr, and-mod, and-le-r}
 use lib.Dec.{eqb}
 use borrow.Author.Tests.{eqb-true, eq-eqb}
 use Rattle.words.specs.Choice.{pick}
@@ -48,6 +48,11 @@ of-under (suc n) w m h f =
     let first : w % 2 ≡ 1 → m % 2 ≡ 1 =
     λ e. ap (λ (x : ℕ). x % 2) (sym (div-one m)) ∙ eqb-true (m / 1 % 2) 1 (f 0 (omega arith) (eq-eqb (w / 1 % 2) 1 (ap (λ (x : ℕ). x % 2) (div-one w) ∙ e))) in
     and-step w m ∙ ap₂ (λ (x y : ℕ). x * 2 + y) rest (least (w % 2) (m % 2) (mod-lt w two-pos) first) ∙ div-add-mod' w 2
+
+-- two numbers with the same bits are one
+pub same-bits : (n a b : ℕ) → a < 2 ^ n → b < 2 ^ n → ((i : ℕ) → i < n → isSet i a ≡ isSet i b) → a ≡ b
+same-bits n a b p q f =
+    sym (of-under n a b p (λ i h s. sym (f i h) ∙ s)) ∙ and-comm a b ∙ of-under n b a q (λ i h s. f i h ∙ s)
 
 -- the set bits of the mask m are those that pass the test
 abbrev pub exact : (ℕ → Bool) → ℕ → Bool

@@ -58,12 +58,15 @@ module _ (h l : ℕ) (ordered : l ≤ h) (v w : ℕ) where
   unfolding put
   is-whole = rw top
 
-  pub put-lt : w < 2 ^ 64 → h < 64 → put h l v w < 2 ^ 64
-  put-lt fit small =
-      let total : (63 - h) + ((h + 1 - l) + l) ≡ 64 = omega arith in
+  pub put-within : (n : ℕ) → w < 2 ^ n → h < n → put h l v w < 2 ^ n
+  put-within n fit small =
+      let total : (n - (h + 1)) + ((h + 1 - l) + l) ≡ n = omega arith in
       rw is-whole
-      (subst (λ (n : ℕ). whole (h + 1 - l) l v w < 2 ^ n) total
-      (fits (h + 1 - l) l v w (63 - h) (subst (λ (n : ℕ). w < 2 ^ n) (sym total) fit)))
+      (subst (λ (k : ℕ). whole (h + 1 - l) l v w < 2 ^ k) total
+      (fits (h + 1 - l) l v w (n - (h + 1)) (subst (λ (k : ℕ). w < 2 ^ k) (sym total) fit)))
+
+  pub put-lt : w < 2 ^ 64 → h < 64 → put h l v w < 2 ^ 64
+  put-lt fit small = put-within 64 fit small
 
   pub inner-fits : h < 64 → v % 2 ^ (h + 1 - l) * 2 ^ l + w % 2 ^ l < 2 ^ 64
   inner-fits small = lt-of-lt-of-le (inner-lt (h + 1 - l) l v w) (pow-mono {j = 64} (omega arith))
@@ -136,13 +139,19 @@ put-again (bits h l) v w t =
     let o = leb→le l h t in
     is-whole h l o v (put h l v w) ∙ ap (whole (h + 1 - l) l v) (is-whole h l o v w) ∙ whole-again (h + 1 - l) l v w ∙ sym (is-whole h l o v w)
 
--- a range of a machine word, which a number put there leaves one
+-- a range of the lowest n bits, in which a number put there leaves the word; and of a machine word
+abbrev pub within : ℕ → Range → Bool
+within n (bits h l) = leb l h && ltb h n
+
+pub set-within : (n : ℕ) (r : Range) (v w : ℕ) → T (within n r) → w < 2 ^ n → set r v w < 2 ^ n
+set-within n (bits h l) v w t fit =
+    put-within h l (leb-true l h (left (leb l h) (ltb h n) (passed t))) v w n fit (ltb-true h n (right (leb l h) (ltb h n) (passed t)))
+
 abbrev pub inWord : Range → Bool
-inWord (bits h l) = leb l h && ltb h 64
+inWord r = within 64 r
 
 pub set-lt : (r : Range) (v w : ℕ) → T (inWord r) → w < 2 ^ 64 → set r v w < 2 ^ 64
-set-lt (bits h l) v w t fit =
-    put-lt h l (leb-true l h (left (leb l h) (ltb h 64) (passed t))) v w fit (ltb-true h 64 (right (leb l h) (ltb h 64) (passed t)))
+set-lt r v w t fit = set-within 64 r v w t fit
 
 -- Several fields, one after the other.
 abbrev pub allApart : List Range → Range → Bool
@@ -152,9 +161,12 @@ allApart (t ∷ ts) r = apart t r && allApart ts r
 abbrev pub places : List Field → List Range
 places fs = map (λ (f : Field). f .at) fs
 
+abbrev pub allWithin : ℕ → List Field → Bool
+allWithin n [] = true
+allWithin n (f ∷ fs) = within n (f .at) && allWithin n fs
+
 abbrev pub allIn : List Field → Bool
-allIn [] = true
-allIn (f ∷ fs) = inWord (f .at) && allIn fs
+allIn fs = allWithin 64 fs
 
 -- they keep every range that is apart from all of theirs
 pub puts-keep : (fs : List Field) (w : ℕ) (r : Range) → T (allApart (places fs) r) → get r (puts fs w) ≡ get r w
@@ -169,7 +181,11 @@ pub puts-read : (before : List Field) (f : Field) (after : List Field) (w : ℕ)
 puts-read [] f after w o t fit = puts-keep after (set (f .at) (f .value) w) (f .at) t ∙ reads-back (f .at) (f .value) w o fit
 puts-read (b ∷ before) f after w o t fit = puts-read before f after (set (b .at) (b .value) w) o t fit
 
+pub puts-within : (n : ℕ) (fs : List Field) (w : ℕ) → T (allWithin n fs) → w < 2 ^ n → puts fs w < 2 ^ n
+puts-within n [] w t fit = fit
+puts-within n (f ∷ fs) w t fit =
+    puts-within n fs (set (f .at) (f .value) w) (T-right (within n (f .at)) (allWithin n fs) t)
+    (set-within n (f .at) (f .value) w (T-left (within n (f .at)) (allWithin n fs) t) fit)
+
 pub puts-lt : (fs : List Field) (w : ℕ) → T (allIn fs) → w < 2 ^ 64 → puts fs w < 2 ^ 64
-puts-lt [] w t fit = fit
-puts-lt (f ∷ fs) w t fit =
-    puts-lt fs (set (f .at) (f .value) w) (T-right (inWord (f .at)) (allIn fs) t) (set-lt (f .at) (f .value) w (T-left (inWord (f .at)) (allIn fs) t) fit)
+puts-lt fs w t fit = puts-within 64 fs w t fit

@@ -1,17 +1,21 @@
 -- What a search and a count say of each number, and how they go on by one.
 -- Assumes nothing.
-use mathlib.Core.Path.{_≡_, refl, sym, ap, _∙_}
-use mathlib.Core.Bool.{Bool, true, false}
+use mathlib.Core.Path.{_≡_, refl, sym, ap, _∙_, subst}
+use mathlib.Core.Bool.{Bool, true, false, _&&_}
+use mathlib.Core.List.{List, [], _∷_}
 use mathlib.Core.Logic.{⊎-elim}
 use Prim.Native.Nat.{ℕ, zero, suc, _+_, _-_, _≤_, _<_}
 use native.Mathlib.Nat.{eq-or-lt-of-le, le-of-suc-le-suc}
 use native.Mathlib.Numerals.{add-one}
 use native.Mathlib.Omega.{arith}
+use lib.Dec.{eqb}
+use lib.ListN.{length}
+use borrow.Author.Tests.{eqb-true}
 use Rattle.words.specs.Choice.{pick}
 use Rattle.words.specs.declared.Found.{Found}
 use Rattle.words.specs.declared.Found.the-variants.{At, Nothing}
-use Rattle.words.specs.Search.{lowest, count}
-use Rattle.words.proofs.Truth.{clash, decided}
+use Rattle.words.specs.Search.{lowest, count, placeOf}
+use Rattle.words.proofs.Truth.{clash, decided, left, right}
 
 -- k is the lowest number from i on and below n that passes
 pub record Lowest (p : ℕ → Bool) (n i k : ℕ) : Type 0 where
@@ -188,3 +192,29 @@ pub none-pass-count : (p : ℕ → Bool) (n : ℕ) → ((j : ℕ) → j < n → 
 unfolding count
 none-pass-count p zero f = refl
 none-pass-count p (suc n) f = rw (f n (omega arith), none-pass-count p n (λ j h. f j (omega arith)))
+
+-- what holds of each of some keys holds of a number that has a place among them
+infixr 20 _also_
+pub data Each (P : ℕ → Type 0) : List ℕ → Type 0 where
+  done : Each P []
+  _also_ : {k : ℕ} {ks : List ℕ} → P k → Each P ks → Each P (k ∷ ks)
+
+pub each-key : (P : ℕ → Type 0) (ks : List ℕ) (x : ℕ) → Each P ks → placeOf ks x < length ks → P x
+each-key P [] x done h = absurd (omega arith)
+each-key P (k ∷ ks) x (p also ps) h = by-test (eqb x k) refl (each-key P ks x ps)
+  where
+    by-test : (b : Bool) → eqb x k ≡ b → (placeOf ks x < length ks → P x) → P x
+    by-test true e later = subst P (sym (eqb-true x k e)) p
+    by-test false e later = let below = rw e at h in later (omega arith)
+
+-- and a test that passes at each
+abbrev pub every : (ℕ → Bool) → List ℕ → Bool
+every p [] = true
+every p (k ∷ ks) = p k && every p ks
+
+at-each : (p : ℕ → Bool) (ks : List ℕ) → every p ks ≡ true → Each (λ k. p k ≡ true) ks
+at-each p [] e = done
+at-each p (k ∷ ks) e = left (p k) (every p ks) e also at-each p ks (right (p k) (every p ks) e)
+
+pub every-key : (p : ℕ → Bool) (ks : List ℕ) (x : ℕ) → every p ks ≡ true → placeOf ks x < length ks → p x ≡ true
+every-key p ks x e h = each-key (λ k. p k ≡ true) ks x (at-each p ks e) h

@@ -14,6 +14,9 @@ pub passed : {b : Bool} → T b → b ≡ true
 passed {b = true} t = refl
 passed {b = false} t = absurd t
 
+pub truth : {b : Bool} → b ≡ true → T b
+truth e = rw e tt
+
 pub clash {ℓ} : {A : Type ℓ} {b : Bool} → b ≡ true → b ≡ false → A
 clash p q = let z : _≡_ {A = ℕ} 0 1 = cc in absurd (omega arith)
 

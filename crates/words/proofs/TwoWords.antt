@@ -41,11 +41,11 @@ module _ (lo hi : ℕ) (fits : lo < 2 ^ 64) where
       ap (λ (k : ℕ). joined lo hi / 2 ^ k % 2 ^ (h + 1 - l)) (sym place) ∙ ap (λ (x : ℕ). x % 2 ^ (h + 1 - l)) (high-word (l - 64))
       ∙ ap (λ (k : ℕ). hi / 2 ^ (l - 64) % 2 ^ k) width
 
-  set-low : (i : ℕ) → i < 64 → isSet i (joined lo hi) ≡ isSet i lo
+  pub set-low : (i : ℕ) → i < 64 → isSet i (joined lo hi) ≡ isSet i lo
   unfolding isSet
   set-low i small = ap (λ (x : ℕ). eqb x 1) (below 1 i (joined lo hi) (omega arith) ∙ ap (λ (x : ℕ). x / 2 ^ i % 2) low-word)
 
-  set-high : (i : ℕ) → isSet (64 + i) (joined lo hi) ≡ isSet i hi
+  pub set-high : (i : ℕ) → isSet (64 + i) (joined lo hi) ≡ isSet i hi
   unfolding isSet
   set-high i = ap (λ (x : ℕ). eqb (x % 2) 1) (high-word i)
 

@@ -5,7 +5,7 @@ ghost use Prim.Native.Nat.{_+_, _-_, _^_, _≤_, _<_};
 ghost use lib.ListN.{length};
 ghost use Rattle.words.specs.Parts.{part, put};
 ghost use Rattle.words.specs.Spans.{overlap};
-ghost use Rattle.words.specs.Bytes.{littleEndian, wordAt};
+ghost use Rattle.words.specs.Bytes.{littleEndian, wordAt, withWord};
 
 // What a search finds.
 pub enum Found {
@@ -84,4 +84,26 @@ pub fn word_at(bytes: &[u8], at: usize) -> u64
         bytes[at + 6],
         bytes[at + 7],
     )
+}
+
+// Stores a word as the eight bytes from `at` on.
+pub fn store_at(bytes: &mut [u8], at: usize, w: u64)
+    requires { ⌜ at + 8 ≤ length (now bytes) ⌝ }
+    ensures { λ r. ⌜ now (bytes .exit) ≡ withWord (now (bytes .entry)) at w ⌝ }
+{
+    let b = w / 0x100;
+    let c = b / 0x100;
+    let d = c / 0x100;
+    let e = d / 0x100;
+    let f = e / 0x100;
+    let g = f / 0x100;
+    let h = g / 0x100;
+    bytes[at] = (w % 0x100) as u8;
+    bytes[at + 1] = (b % 0x100) as u8;
+    bytes[at + 2] = (c % 0x100) as u8;
+    bytes[at + 3] = (d % 0x100) as u8;
+    bytes[at + 4] = (e % 0x100) as u8;
+    bytes[at + 5] = (f % 0x100) as u8;
+    bytes[at + 6] = (g % 0x100) as u8;
+    bytes[at + 7] = (h % 0x100) as u8;
 }

@@ -1,0 +1,4 @@
+pub mod Judging
+pub mod Placed
+pub mod Cases
+pub mod Laws

@@ -1,0 +1,61 @@
+-- `writer::encoding::encode` meets its contract: at each code its fields are put, one after the other.
+-- Assumes nothing.
+use borrow.Author.Needs.{needs}
+use Rattle.writer.proofs.ByCode.{has-03, has-04, has-05, has-06, has-10, has-11, has-12, has-13, has-21, has-22, has-23, has-28, has-2A, has-46, has-73, has-none}
+use Rattle.writer.proofs.encoding.encode.Statement.{statement}
+use Rattle.writer.proofs.encoding.encode.Tie as tie
+
+pub encode-spec : {M : Type 1} → statement M
+encode-spec =
+    tie.close
+    (tie.spec
+    (λ c κs. search needs)
+    (λ c. search needs)
+    (λ c κs. search needs)
+    (λ c κs. search needs)
+    (λ c κs. search needs)
+    (λ c κs. search needs)
+    (λ c κs. search needs)
+    (λ c κs. search needs)
+    (λ c κs. search needs)
+    (λ c κs. search needs)
+    (λ c κs. search needs)
+    (λ c κs. search needs)
+    (λ c κs. search needs)
+    (λ c κs. search needs)
+    (λ c κs. search needs)
+    (λ c κs. search needs)
+    (λ c κs. search needs)
+    (λ c κs. search needs)
+    (λ c κs. search needs)
+    (λ c κs. search needs)
+    (λ c κs. search needs)
+    (λ c κs. search needs)
+    (λ c κs. search needs)
+    (λ c κs. search needs)
+    (λ c κs. search needs)
+    (λ c κs. search needs)
+    (λ c κs. search needs)
+    (λ c κs. search needs)
+    (λ c κs. search needs)
+    (λ c κs. search needs)
+    (λ c κs. search needs)
+    (λ c κs. search needs)
+    (λ c κs. search needs)
+    (λ c κs. search needs)
+    (λ c. search has-03)
+    (λ c. search has-04)
+    (λ c. search has-05)
+    (λ c. search has-06)
+    (λ c. search has-10)
+    (λ c. search has-11)
+    (λ c. search has-12)
+    (λ c. search has-13)
+    (λ c. search has-21)
+    (λ c. search has-22)
+    (λ c. search has-23)
+    (λ c. search has-28)
+    (λ c. search has-2A)
+    (λ c. search has-46)
+    (λ c. search has-73)
+    (λ c. search has-none))
