@@ -4,6 +4,7 @@ pub mod Doubles
 pub mod Sums
 pub mod Tells
 pub mod Found
+pub mod Legal
 pub mod Swept
 pub mod Ends
 pub mod Order
@@ -15,3 +16,4 @@ pub mod Recorder
 pub mod Ranges
 pub mod Legal
 pub mod Written
+pub mod Batches
