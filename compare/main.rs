@@ -87,6 +87,7 @@ fn compare(seed: u64, wrong: Option<Wrong>) -> ExitCode {
     println!("seed {seed:#x}");
     watchdog::start(seed);
     let writes = wrong.as_ref().is_some_and(Wrong::writes);
+    let checks = false;
     let mut checker = Checker::new(seed, wrong);
     phases::cases::cases(&mut checker);
     phases::reasons::cases::cases(&mut checker);
@@ -98,10 +99,14 @@ fn compare(seed: u64, wrong: Option<Wrong>) -> ExitCode {
     phases::regions::cases::cases(&mut checker);
     phases::events::cases::cases(&mut checker);
     phases::writer::cases::cases(&mut checker);
+    phases::check::cases::cases(&mut checker);
     // No other wrong unit is caught by these, so that they come first for none but a
     // wrong writer.
     if writes {
         phases::writer::writer(&mut checker);
+    }
+    if checks {
+        phases::check::check(&mut checker);
     }
     phases::regions::regions(&mut checker);
     phases::hyp::hyp(&mut checker);
@@ -114,6 +119,9 @@ fn compare(seed: u64, wrong: Option<Wrong>) -> ExitCode {
     phases::ranges::ranges(&mut checker);
     if !writes {
         phases::writer::writer(&mut checker);
+    }
+    if !checks {
+        phases::check::check(&mut checker);
     }
     phases::commands::sweeps(&mut checker);
     phases::formats::sweeps(&mut checker);
