@@ -87,7 +87,7 @@ fn compare(seed: u64, wrong: Option<Wrong>) -> ExitCode {
     println!("seed {seed:#x}");
     watchdog::start(seed);
     let writes = wrong.as_ref().is_some_and(Wrong::writes);
-    let checks = false;
+    let checks = wrong.as_ref().is_some_and(Wrong::checks);
     let mut checker = Checker::new(seed, wrong);
     phases::cases::cases(&mut checker);
     phases::reasons::cases::cases(&mut checker);
@@ -100,8 +100,8 @@ fn compare(seed: u64, wrong: Option<Wrong>) -> ExitCode {
     phases::events::cases::cases(&mut checker);
     phases::writer::cases::cases(&mut checker);
     phases::check::cases::cases(&mut checker);
-    // No other wrong unit is caught by these, so that they come first for none but a
-    // wrong writer.
+    // No other wrong unit is caught by these, so that they come first for none but one
+    // that writes or checks wrongly.
     if writes {
         phases::writer::writer(&mut checker);
     }
