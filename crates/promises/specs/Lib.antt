@@ -14,6 +14,5 @@ pub mod Numbers
 pub mod Pending
 pub mod Recorder
 pub mod Ranges
-pub mod Legal
 pub mod Written
 pub mod Batches

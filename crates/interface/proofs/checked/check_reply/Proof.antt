@@ -8,7 +8,7 @@ returns-2 : tie.Need-returns-2
 returns-2 c = rw (c .before .enum-told .given .1, c .nothing .ensures)
 
 returns-3 : tie.Need-returns-3
-returns-3 c = rw (c .before .before .a2 .given .1, c .batch-number .ensures)
+returns-3 c = rw (c .before .before .a2 .given .1, c .which-number .ensures)
 
 returns-4 : tie.Need-returns-4
 returns-4 c = rw (c .before .a3 .given .1)
