@@ -163,6 +163,10 @@ def allowed():
         expect('allowed: ' + body, writes.wrong('runs', 'fn go(kept: &mut [u64], v: u64) {\n    %s\n}\n' % body) == [])
     gather = 'fn gather(out: &mut [u64], n: usize) { let mut i = 0; while i < n { out[i] = 0; i += 1; } }'
     expect('an array of its caller\'s is filled in a loop', writes.wrong('image_state', gather) == [])
+    marks = 'fn mark_rows(kept: &[u64], n: usize, marks: &mut [bool]) { let mut j = 0; while j < n { marks[j] = true; j += 1; } }'
+    expect('marks are made in a loop', writes.wrong('batches', marks) == [])
+    expect('words are not', len(writes.wrong('batches', marks.replace('[bool]', '[u64]'))) == 1)
+    expect('nor where both are lent', len(writes.wrong('batches', marks.replace('kept: &', 'kept: &mut '))) == 1)
     expect('lent fields', writes.wrong('registers', 'fn acknowledge(r: &mut Fields) { r.gerrorn = 1; }') == [])
 
 

@@ -4,7 +4,8 @@ A contract sees a call's entry and exit, so it cannot tell a unit that works on 
 the library crates below DIR (crates/):
 - an assignment to more than a local's name (an element, a field, what a reference leads to) is a store, and a function's text
   has just the stores that it has below;
-- a function that stores has no loop and lends nothing to change, so that nothing repeats its store within a call of it;
+- a function that stores has no loop and lends nothing to change, so that nothing repeats its store within a call of it, unless
+  marks, which are no words, are all that it is lent to change;
 - `&mut` stands only before a whole argument of a call, and a lent slice of words or bytes is only indexed, measured or handed
   on.
 """
@@ -28,10 +29,11 @@ STORES = {
     ('batch_writes', 'ring'): 1,
     # to the bytes of a slot: those of one word
     ('words', 'store_at'): 8,
-    # to other memory: the words of an answer, lent fields, an array of its caller's
+    # to other memory: the words of an answer, lent fields, an array of its caller's, marks
     ('host', 'tell'): 1,
     ('registers', 'acknowledge'): 1,
     ('image_state', 'gather'): 1,
+    ('batches', 'mark_rows'): 1,
 }
 # What a function lends last: a batch's doorbell comes behind all that is written to the queue.
 LAST = {('batch_writes', 'write_batch'): 'ring'}
@@ -104,6 +106,12 @@ def lends(slices, tokens):
         yield tokens[at], callee if tokens[at + 1] in (')', ',') else ''
 
 
+def marks_alone(params):
+    """Whether slices of bools are all that a function is lent to change: no word of memory is one."""
+    lent = re.findall(r'&(?:\'\w+\s+)?mut\s*([^,]+)', params)
+    return bool(lent) and all(what.strip() == '[bool]' for what in lent)
+
+
 def wrong(crate, text):
     """What the functions of a crate's source do that they may not."""
     found = []
@@ -114,7 +122,7 @@ def wrong(crate, text):
         count, may = stores(tokens), STORES.get((crate, name), 0)
         if count != may:
             found.append('%s::%s stores %d times, allowed %d' % (crate, name, count, may))
-        if may and (crate, name) != GATHERS and (lent or {'loop', 'while', 'for'} & set(tokens)):
+        if may and (crate, name) != GATHERS and not marks_alone(params) and (lent or {'loop', 'while', 'for'} & set(tokens)):
             found.append('%s::%s stores and has a loop, or lends what may be stored to' % (crate, name))
         if (crate, name) in LAST and [callee for _, callee in lent][-1:] != [LAST[crate, name]]:
             found.append('%s::%s lends something behind %s' % (crate, name, LAST[crate, name]))

@@ -154,6 +154,22 @@ def print_regions(folder, by_letter):
     )
 
 
+def print_batches(folder, by_letter):
+    """What a check of two batches costs beside two runs, one of each: n beside h, and o beside g."""
+    times = {letter: Times(folder, letter, *MODELS).unit.middle for letter in "hngo"}
+    counts = {
+        letter: Counts(folder, "once", letter, "unit", by_letter[letter]["rows"]).all / by_letter[letter]["parts"] for letter in "hngo"
+    }
+    whole = times["n"] * by_letter["n"]["parts"] / 1e6
+    print(
+        f"\n**A check of a batch beside two runs**: for a command of either batch the check takes {number(times['n'])} ns in n, where no "
+        f"row goes, and {number(times['o'])} in o, where every row goes; a run of the same commands takes {number(times['h'])} and "
+        f"{number(times['g'])}. So it takes {times['n'] / times['h']:.2f} and {times['o'] / times['g']:.2f} times as long as the runs "
+        f"of both batches, by {counts['n'] / counts['h']:.2f} and {counts['o'] / counts['g']:.2f} times the instructions, and "
+        f"{whole:.1f} ms in all in n."
+    )
+
+
 def main(folder):
     all_cases = cases(folder)
     by_letter = {case["case"]: case for case in all_cases}
@@ -169,6 +185,7 @@ def main(folder):
     print_limits(folder, by_letter)
     print_ranges(folder, by_letter)
     print_regions(folder, by_letter)
+    print_batches(folder, by_letter)
 
 
 if __name__ == "__main__":

@@ -5,7 +5,7 @@
 //! changes times as well, and it's another place at every start of the program;
 //! so each place is measured apart.
 
-use crate::cases::{Case, Lent};
+use crate::cases::{Case, Lent, Per};
 use crate::sides::{Side, MODEL, UNIT};
 use crate::stack::{at_place, LOOK, PLACES};
 use crate::verify::Totals;
@@ -14,8 +14,8 @@ use std::time::{Duration, Instant};
 const ROUNDS: usize = 3;
 /// How long a case takes at one place in one round.
 const TURN: Duration = Duration::from_millis(60);
-/// Calls within one timed part where nothing has to be restored between them;
-/// such calls are short, and reading the clock isn't free.
+/// Calls within one timed part where nothing has to be restored between them and no
+/// commands are gone through; such calls are short, and reading the clock isn't free.
 const REPEATS: u32 = 100;
 
 /// Nanoseconds for one command or call at one place of the stack.
@@ -74,7 +74,8 @@ pub fn all(cases: &[Case], seen: &[Totals]) -> Vec<Vec<Figure>> {
     let mut bests: Vec<_> = cases.iter().map(new).collect();
     for _ in 0..ROUNDS {
         for ((case, totals), bests) in cases.iter().zip(seen).zip(&mut bests) {
-            let repeats = if totals.stored { 1 } else { REPEATS };
+            let short = case.per == Per::Call && !totals.stored;
+            let repeats = if short { REPEATS } else { 1 };
             for (place, best) in bests.iter_mut().enumerate() {
                 at_place(place, &mut |real| match real {
                     true => best.turn([&UNIT, &MODEL], case, repeats, TURN),

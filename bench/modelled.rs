@@ -1,9 +1,10 @@
-//! The model's run, fill and transaction as the C interface has them.
+//! The model's run, check of a batch, fill and transaction as the C interface has them.
 //!
 //! They keep their names in the program, by which their instructions are counted.
 
-use crate::answers::{filled, ran, reply, transaction, translated};
+use crate::answers::{checked, filled, ran, reply, transaction, translated};
 use crate::call::{Asked, Reply};
+use crate::model::check::check_batch;
 use crate::model::command::Features;
 use crate::model::fill::fill;
 use crate::model::refusal::Refusal;
@@ -29,6 +30,28 @@ pub unsafe extern "C" fn model_run(
     let features = Features::from_bits(features);
     let report = run(kept, table, queue, features, allowance, |_, _| ());
     tell(report.map(ran), answer)
+}
+
+#[no_mangle]
+pub unsafe extern "C" fn model_check_batch(
+    kept: *const u64,
+    words: usize,
+    table: *const u64,
+    table_words: usize,
+    original: *const u8,
+    original_bytes: usize,
+    proposed: *const u8,
+    proposed_bytes: usize,
+    features: u64,
+    answer: *mut u64,
+) -> u64 {
+    let kept = slice::from_raw_parts(kept, words);
+    let table = slice::from_raw_parts(table, table_words);
+    let original = slice::from_raw_parts(original, original_bytes);
+    let proposed = slice::from_raw_parts(proposed, proposed_bytes);
+    let features = Features::from_bits(features);
+    let verdict = check_batch(kept, table, original, proposed, features);
+    tell(verdict.map(checked), answer)
 }
 
 #[no_mangle]

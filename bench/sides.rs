@@ -2,8 +2,8 @@
 
 use crate::call::Reply;
 use crate::cases::{Case, Lent, Work};
-use crate::interface::{tahvenno_fill, tahvenno_run, tahvenno_translate};
-use crate::modelled::{model_fill, model_run, model_translate};
+use crate::interface::{tahvenno_check_batch, tahvenno_fill, tahvenno_run, tahvenno_translate};
+use crate::modelled::{model_check_batch, model_fill, model_run, model_translate};
 use std::hint::black_box;
 
 pub type Run = unsafe extern "C" fn(
@@ -23,20 +23,36 @@ pub type Translate =
 pub type Fill =
     unsafe extern "C" fn(*mut u64, usize, u64, u64, u64, u64, u64, u64, *mut u64) -> u64;
 
+pub type Check = unsafe extern "C" fn(
+    *const u64,
+    usize,
+    *const u64,
+    usize,
+    *const u8,
+    usize,
+    *const u8,
+    usize,
+    u64,
+    *mut u64,
+) -> u64;
+
 pub struct Side {
     pub run: Run,
+    pub check: Check,
     pub fill: Fill,
     pub translate: Translate,
 }
 
 pub const UNIT: Side = Side {
     run: tahvenno_run,
+    check: tahvenno_check_batch,
     fill: tahvenno_fill,
     translate: tahvenno_translate,
 };
 
 pub const MODEL: Side = Side {
     run: model_run,
+    check: model_check_batch,
     fill: model_fill,
     translate: model_translate,
 };
@@ -65,6 +81,21 @@ impl Side {
                         bytes,
                         *features,
                         u64::MAX,
+                        told,
+                    )
+                }
+                Work::Check { batches, features } => {
+                    let [original, proposed] = batches;
+                    black_box(self.check)(
+                        memory,
+                        words,
+                        table,
+                        rows,
+                        original.as_ptr(),
+                        original.len(),
+                        proposed.as_ptr(),
+                        proposed.len(),
+                        *features,
                         told,
                     )
                 }

@@ -15,6 +15,7 @@ static SEEN: AtomicUsize = AtomicUsize::new(PLACES);
 
 pub const LOOK: Side = Side {
     run: look_run,
+    check: look_check,
     fill: look_fill,
     translate: look_translate,
 };
@@ -27,6 +28,21 @@ unsafe extern "C" fn look_run(
     _: *const u8,
     _: usize,
     _: u64,
+    _: u64,
+    _: *mut u64,
+) -> u64 {
+    look()
+}
+
+unsafe extern "C" fn look_check(
+    _: *const u64,
+    _: usize,
+    _: *const u64,
+    _: usize,
+    _: *const u8,
+    _: usize,
+    _: *const u8,
+    _: usize,
     _: u64,
     _: *mut u64,
 ) -> u64 {

@@ -1,6 +1,6 @@
 //! Both sides once on each input, before anything is timed.
 
-use crate::cases::{Case, Per};
+use crate::cases::{Case, Per, Work};
 use crate::sides::{MODEL, UNIT};
 
 /// What the calls of a case did together.
@@ -16,6 +16,7 @@ pub struct Totals {
 /// what the case is there to measure.
 pub fn same(case: &Case) -> Result<Totals, String> {
     let mut totals = Totals::default();
+    let checks = matches!(case.work, Work::Check { .. });
     for call in 0..case.calls() {
         let (mut ours, mut theirs) = (case.lent.clone(), case.lent.clone());
         let unit = UNIT.call(case, call, &mut ours);
@@ -30,12 +31,12 @@ pub fn same(case: &Case) -> Result<Totals, String> {
             return Err(format!("call {call} ends otherwise: {unit:x?}"));
         }
         totals.stored |= ours != case.lent;
-        if case.per == Per::Command {
+        if case.per == Per::Command && !checks {
             totals.consumed += answer[1];
             totals.removed += answer[3];
         }
     }
-    if case.per == Per::Command && totals.consumed != case.parts() {
+    if case.per == Per::Command && !checks && totals.consumed != case.parts() {
         return Err(format!("consumed {} commands", totals.consumed));
     }
     if case.removes.is_some_and(|rows| rows != totals.removed) {

@@ -5,14 +5,17 @@
 
 #include "tahvenno.h"
 
+enum { MOST_CHECKED = 256 }; /* commands of a batch that is checked */
+
 const char *const CALL_NAMES[CALLS] = {"run",           "fill",        "doorbell",   "acknowledge",      "enable",
                                        "clear_pending", "translate",   "state",      "table_fill",       "write_command",
-                                       "write_batch",   "event_write", "event_read", "event_acknowledge"};
+                                       "write_batch",   "check_batch", "event_write", "event_read",      "event_acknowledge"};
 
 void make_call(const struct call *call, const struct input *input, uint64_t *kept, const uint8_t *queue, struct outcome *outcome) {
     const struct access *access = &call->access;
     size_t words = input->words, table_words = input->table_words;
     uint64_t *table = kept + TABLE_AT;
+    const uint8_t *batches = (const uint8_t *)call->commands;
     uint64_t *answer = outcome->answer, returned = 0;
     switch (call->which) {
     case RUN:
@@ -40,6 +43,10 @@ void make_call(const struct call *call, const struct input *input, uint64_t *kep
     case WRITE_BATCH:
         returned = tahvenno_write_batch(kept, words, (uint8_t *)queue, input->bytes, call->commands, call->command_words,
                                         input->features, answer);
+        break;
+    case CHECK_BATCH:
+        returned = tahvenno_check_batch(kept, words, table, table_words, batches + call->row, call->w[0], batches + call->argument,
+                                        call->w[1], input->features, answer);
         break;
     case EVENT_WRITE: returned = tahvenno_event_write(kept, words, queue, call->allowance, answer); break;
     case EVENT_READ: returned = tahvenno_event_read(kept, words, answer); break;
@@ -133,6 +140,10 @@ void any_call(struct dice *dice, const struct input *input, enum which which, st
     }
     if (which == WRITE_COMMAND || which == WRITE_BATCH) {
         any_write(dice, input, call);
+        return;
+    }
+    if (which == CHECK_BATCH) {
+        any_batches(dice, input, MOST_CHECKED, call);
         return;
     }
     call->row = below(dice, rows + 1);

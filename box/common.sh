@@ -1,10 +1,10 @@
 # What the scripts of this folder share. Sourced, after the script has gone to the repository's root.
 
 # The sources of the test of stores without its machine's decoder, of that of calls, and of the wrong units for either.
-inputs_sources=(box/call.c box/fields.c box/inputs.c)
-stores_sources=(box/stores.c box/writers.c box/watch.c "${inputs_sources[@]}")
+inputs_sources=(box/batches.c box/call.c box/fields.c box/inputs.c)
+stores_sources=(box/stores.c box/writers.c box/checks.c box/watch.c "${inputs_sources[@]}")
 calls_sources=(box/calls.c "${inputs_sources[@]}")
-wrong_sources=(box/wrong.c box/wrong_writers.c)
+wrong_sources=(box/wrong.c box/wrong_writers.c box/wrong_checks.c)
 
 stop() { # why
     printf '%s: failed: %s\n' "$(basename "$0")" "$1" >&2

@@ -4,8 +4,8 @@
  * a used row, moving RD and flipping GERROR all change the word. At the limits, where that takes too long, it is read from calls
  * of one store each. What either fill, a control call and the calls of the recorder have to store is in their words.
  * Every call is then made on watched memory, and word, value, order and number of the stores that are seen have to be those; a
- * call that is refused, a transaction and the state have to store nothing. The writers are watched in writers.c. Ends with 1 at the
- * first difference, and where a kind of store never came up. */
+ * call that is refused, a transaction and the state have to store nothing. The writers are watched in writers.c, and the check of a
+ * batch, which stores nothing, in checks.c. Ends with 1 at the first difference, and where a kind of store never came up. */
 #include <inttypes.h>
 #include <stdarg.h>
 #include <stdio.h>
@@ -408,8 +408,8 @@ static uint64_t control_after(const struct call *call, uint64_t control) {
     return call->argument ? control | CMDQEN : control & ~CMDQEN;
 }
 
-/* Every call but runs, fills of either table and writers, of accepted images: one control store if it is carried out, none if it
- * is refused or only reads. */
+/* Every call but runs, fills of either table, writers and checks, of accepted images: one control store if it is carried out, none if
+ * it is refused or only reads. */
 static void check_others(struct dice *dice, int rounds) {
     static struct input input;
     struct call call;
@@ -555,15 +555,17 @@ static void report(void) {
 }
 
 int main(int argc, char **argv) {
-    struct dice dice, own, table, writers;
+    struct dice dice, own, table, writers, checks;
     int rounds = argc > 2 ? atoi(argv[2]) : 8;
     if (argc > 1) seed = strtoull(argv[1], NULL, 0);
     dice.state = seed;
-    own.state = ~seed; /* so that the other inputs stay as they were without the recorder, the second table, and the writers */
+    own.state = ~seed; /* so that the other inputs stay as they were without the recorder, the second table, the writers, the check */
     table.state = seed << 32;
     writers.state = ~seed << 32;
+    checks.state = seed << 48;
     watch_start();
     check_writers(&writers, rounds);
+    check_checks(&checks, rounds);
     check_events(&own, rounds);
     check_table_fills(&table, rounds);
     check_fills(&dice, rounds);
@@ -572,5 +574,6 @@ int main(int argc, char **argv) {
     check_largest_batches(&writers, rounds);
     report();
     report_writers();
+    report_checks();
     return 0;
 }

@@ -1,4 +1,5 @@
-/* What the two halves of box/stores share: stores.c, and writers.c for the calls that write to the queue. */
+/* What the parts of box/stores share: stores.c, writers.c for the calls that write to the queue, and checks.c for the one that
+ * stores nothing. */
 #ifndef STORES_H
 #define STORES_H
 
@@ -29,5 +30,8 @@ void check_writers(struct dice *dice, int rounds);
  * the smaller ones do not. */
 void check_largest_batches(struct dice *dice, int rounds);
 void report_writers(void);
+
+void check_checks(struct dice *dice, int rounds);
+void report_checks(void);
 
 #endif

@@ -54,7 +54,7 @@ void watch_start(void);
  * table follows the kept memory. The queue is lent to be read. */
 void watch_load(const struct input *input, size_t shift);
 
-/* Lends commands, and the queue to be written. */
+/* Lends commands, or the batches of a check, and the queue to be written. */
 void watch_lend(const uint64_t *commands, size_t command_words);
 
 uint64_t *watch_kept(void);

@@ -2,7 +2,8 @@
  *
  * The linker puts these functions before the unit's (--wrap), and TAHVENNO_WRONG names the fault. Each asks the unit on a copy
  * what is to be stored, and then makes the stores its own way: so answers are right, mostly memory too, and only the stores tell.
- * Without a fault they are right as well, and box/stores has to accept them. Those of the writers are in wrong_writers.c. */
+ * Without a fault they are right as well, and box/stores has to accept them. Those of the writers are in wrong_writers.c, and
+ * those of the check of a batch in wrong_checks.c. */
 #include "wrong.h"
 
 #include <stdlib.h>

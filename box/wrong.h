@@ -1,4 +1,4 @@
-/* What the two halves of the wrong units share: wrong.c, and wrong_writers.c. */
+/* What the parts of the wrong units share: wrong.c, wrong_writers.c and wrong_checks.c. */
 #ifndef WRONG_H
 #define WRONG_H
 

@@ -1,7 +1,10 @@
 //! What the model takes and says, in the numbers of the C interface.
 
-use crate::call::{Asked, Reply, CUT, DROPPED, RAISED, STORED, WRITE_CUT};
+use crate::call::{
+    Asked, Reply, CUT, DIFFERS, DROPPED, RAISED, STORED, UNQUALIFIED, WRITE_CUT, YES,
+};
 use crate::model::attributes::Attributes;
+use crate::model::check::Verdict;
 use crate::model::control::Control;
 use crate::model::events::{self, Written};
 use crate::model::fill::Filled;
@@ -57,6 +60,16 @@ pub fn ran(report: Report) -> [u64; 8] {
 
 pub fn filled(filled: Filled) -> [u64; 8] {
     answer(&[u64::from(!filled.whole), filled.stores])
+}
+
+pub fn checked(verdict: Verdict) -> [u64; 8] {
+    match verdict {
+        Verdict::Yes => answer(&[YES]),
+        Verdict::Unqualified { proposed, number } => {
+            answer(&[UNQUALIFIED, proposed.into(), number as u64])
+        }
+        Verdict::Differs(row) => answer(&[DIFFERS, row as u64]),
+    }
 }
 
 pub fn written(written: Written) -> [u64; 8] {

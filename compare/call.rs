@@ -32,6 +32,12 @@ pub enum Call<'a> {
         commands: &'a [u64],
         features: u64,
     },
+    /// Two batches of commands, 16 bytes each.
+    CheckBatch {
+        original: &'a [u8],
+        proposed: &'a [u8],
+        features: u64,
+    },
     EventWrite {
         record: &'a [u8; 32],
         allowance: u64,
@@ -58,7 +64,7 @@ pub struct Asked {
 }
 
 /// The names of the calls, in the order of `Call::index`.
-pub const NAMES: [&str; 14] = [
+pub const NAMES: [&str; 15] = [
     "run",
     "fill",
     "doorbell",
@@ -69,6 +75,7 @@ pub const NAMES: [&str; 14] = [
     "clear_pending",
     "table_fill",
     "write_batch",
+    "check_batch",
     "event_write",
     "event_read",
     "event_acknowledge",
@@ -76,13 +83,13 @@ pub const NAMES: [&str; 14] = [
 ];
 
 /// The calls before this one are on the kept memory.
-pub const FIRST_EVENT: usize = 10;
+pub const FIRST_EVENT: usize = 11;
 /// These are on the words of the event recorder. The last call of all is on neither.
-pub const EVENT_CALLS: std::ops::Range<usize> = FIRST_EVENT..13;
+pub const EVENT_CALLS: std::ops::Range<usize> = FIRST_EVENT..14;
 
 /// The numbers that each call is passed and their bits, in the order of the C
-/// interface; memory, second table, queue, slot, record and the words of commands
-/// aren't among them.
+/// interface; memory, second table, queue, slot, batches, record and the words of
+/// commands aren't among them.
 pub const NUMBERS: [&[(&str, u32)]; NAMES.len()] = [
     &[("features", 64), ("allowance", 64)],
     &[
@@ -109,6 +116,7 @@ pub const NUMBERS: [&[(&str, u32)]; NAMES.len()] = [
     &[],
     &[("row", 64), ("w0", 64), ("w1", 64), ("allowance", 64)],
     &[("features", 64)],
+    &[("features", 64)],
     &[("allowance", 64)],
     &[],
     &[],
@@ -126,7 +134,12 @@ pub struct Reply {
 pub const RAISED: u64 = 3;
 pub const CUT: u64 = 4;
 
-/// The same of an event write.
+/// What a check of a batch says.
+pub const YES: u64 = 0;
+pub const UNQUALIFIED: u64 = 1;
+pub const DIFFERS: u64 = 2;
+
+/// The ends of an event write.
 pub const STORED: u64 = 0;
 pub const DROPPED: u64 = 1;
 pub const WRITE_CUT: u64 = 2;
@@ -144,10 +157,11 @@ impl Call<'_> {
             Call::ClearPending => 7,
             Call::TableFill { .. } => 8,
             Call::WriteBatch { .. } => 9,
-            Call::EventWrite { .. } => 10,
-            Call::EventRead => 11,
-            Call::EventAcknowledge => 12,
-            Call::WriteCommand { .. } => 13,
+            Call::CheckBatch { .. } => 10,
+            Call::EventWrite { .. } => 11,
+            Call::EventRead => 12,
+            Call::EventAcknowledge => 13,
+            Call::WriteCommand { .. } => 14,
         }
     }
 
@@ -180,7 +194,7 @@ impl Call<'_> {
                 words: [w0, w1],
                 allowance,
             } => vec![row, w0, w1, allowance],
-            Call::WriteBatch { features, .. } => vec![features],
+            Call::WriteBatch { features, .. } | Call::CheckBatch { features, .. } => vec![features],
             Call::EventWrite { allowance, .. } => vec![allowance],
             Call::WriteCommand { features, .. } => vec![features],
             Call::Acknowledge | Call::State | Call::ClearPending => vec![],
@@ -222,6 +236,16 @@ impl Call<'_> {
             (Call::WriteBatch { commands, .. }, &[features]) => {
                 Call::WriteBatch { commands, features }
             }
+            (
+                Call::CheckBatch {
+                    original, proposed, ..
+                },
+                &[features],
+            ) => Call::CheckBatch {
+                original,
+                proposed,
+                features,
+            },
             (Call::EventWrite { record, .. }, &[allowance]) => {
                 Call::EventWrite { record, allowance }
             }

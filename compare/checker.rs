@@ -3,7 +3,7 @@
 use crate::call::{Call, Reply};
 use crate::generate::random::Random;
 use crate::laws;
-use crate::lent::{Lent, Memory};
+use crate::lent::{Bytes, Lent, Memory};
 use crate::modelled;
 use crate::report::{stop, Scene};
 use crate::tally::Tally;
@@ -79,7 +79,8 @@ impl Checker {
         self.table = table.to_vec();
         let dirt: [u64; 8] = std::array::from_fn(|_| self.garbage.next());
         let mut answer = Lent::new(&dirt, &mut self.garbage);
-        let (number, read_kept) = on_unit(call, &mut lent, &mut answer, &self.wrong);
+        let garbage = &mut self.garbage;
+        let (number, read_kept) = on_unit(call, (&mut lent, &mut answer), &self.wrong, garbage);
         watchdog::returned();
         let theirs = Reply {
             number,
@@ -93,6 +94,7 @@ impl Checker {
         let start = (&before[..], &self.table[..]);
         self.tally.regions.count(start, &call, &ours, (kept, table));
         self.tally.writer.count(&before, &call, &ours, bytes.len());
+        self.tally.check.count(start, &call, &ours);
 
         let mut scene = self.scene(&before, call, (theirs, lent.inner()), (ours, kept));
         scene.tables = [lent.table(), table];
@@ -154,9 +156,14 @@ impl Checker {
 }
 
 /// The unit's number, and whether it left alone what it only reads: a run's queue, the
-/// record, the words of commands. It is lent a copy of them, for the model has to read
-/// them as they were.
-fn on_unit(call: Call, kept: &mut Memory, answer: &mut Lent, wrong: &Option<Wrong>) -> (u64, bool) {
+/// record, the words of commands, batches. It is lent a copy of them, for the model has to
+/// read them as they were.
+fn on_unit(
+    call: Call,
+    (kept, answer): (&mut Memory, &mut Lent),
+    wrong: &Option<Wrong>,
+    garbage: &mut Random,
+) -> (u64, bool) {
     let perform = |call, kept: &mut Memory, answer: &mut Lent| match wrong {
         None => unit::perform(call, kept, answer),
         Some(wrong) => wrong.perform(call, kept, answer),
@@ -202,6 +209,27 @@ fn on_unit(call: Call, kept: &mut Memory, answer: &mut Lent, wrong: &Option<Wron
                 features,
             };
             (perform(lent, kept, answer), copy == commands)
+        }
+        Call::CheckBatch {
+            original,
+            proposed,
+            features,
+        } => {
+            let one = Bytes::new(original, garbage);
+            let other = Bytes::new(proposed, garbage);
+            // A batch beside itself is lent once.
+            let second = match std::ptr::eq(original, proposed) {
+                true => &one,
+                false => &other,
+            };
+            let lent = Call::CheckBatch {
+                original: one.inner(),
+                proposed: second.inner(),
+                features,
+            };
+            let number = perform(lent, kept, answer);
+            let same = one.inner() == original && other.inner() == proposed;
+            (number, same && one.margins_kept() && other.margins_kept())
         }
         _ => (perform(call, kept, answer), true),
     }

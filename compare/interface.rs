@@ -61,6 +61,18 @@ extern "C" {
         features: u64,
         answer: *mut u64,
     ) -> u64;
+    pub fn tahvenno_check_batch(
+        kept: *const u64,
+        words: usize,
+        table: *const u64,
+        table_words: usize,
+        original: *const u8,
+        original_bytes: usize,
+        proposed: *const u8,
+        proposed_bytes: usize,
+        features: u64,
+        answer: *mut u64,
+    ) -> u64;
     pub fn tahvenno_event_write(
         events: *mut u64,
         words: usize,

@@ -1,6 +1,7 @@
 //! What the paper says of every call, whoever makes it. Unit and model agree
 //! before a law is asked, so that a broken one is mostly the model's fault.
 
+mod check;
 mod events;
 mod hyp;
 mod ranges;
@@ -23,7 +24,9 @@ pub fn broken(
     if reply.number != 0 {
         let same = before == after && tables.0 == tables.1;
         let stored = (!same).then_some("a refusal stored something");
-        return stored.or_else(|| hyp::refused(before, call, reply));
+        return stored
+            .or_else(|| hyp::refused(before, call, reply))
+            .or_else(|| check::refused(call, reply));
     }
     if let Some(law) = regions::broken(call, reply, tables) {
         return Some(law);
@@ -44,8 +47,22 @@ pub fn broken(
         .or_else(|| hyp::run(before, (queue, features), reply, after))
         .or_else(|| ranges::run(before, (queue, features), reply, after))
         .or_else(|| regions::run(before, (queue, features), reply, (after, tables))),
+        Call::Translate(_)
+        | Call::State
+        | Call::TableFill { .. }
+        | Call::CheckBatch { .. }
+        | Call::WriteCommand { .. }
+            if before != after =>
+        {
+            Some("a call stored to a memory that it only reads")
+        }
+        Call::CheckBatch {
+            original,
+            proposed,
+            features,
+        } => check::broken((before, tables.0), [original, proposed], features, reply),
         Call::Translate(_) | Call::State | Call::TableFill { .. } | Call::WriteCommand { .. } => {
-            (before != after).then_some("a call stored to a memory that it only reads")
+            None
         }
         Call::Fill { row, .. } => {
             let start = 1 + 4 * row as usize;

@@ -33,7 +33,7 @@ impl Lent {
 }
 
 /// The same of bytes, which may stand at any address.
-struct Bytes {
+pub struct Bytes {
     bytes: Vec<u8>,
     before: Vec<u8>,
     after: Vec<u8>,
@@ -48,7 +48,7 @@ impl Bytes {
         }
     }
 
-    fn new(inner: &[u8], garbage: &mut Random) -> Bytes {
+    pub fn new(inner: &[u8], garbage: &mut Random) -> Bytes {
         let mut margin = |least: u64| -> Vec<u8> {
             let length = garbage.between(least, 3 * least);
             (0..length).map(|_| garbage.next() as u8).collect()
@@ -66,7 +66,11 @@ impl Bytes {
         self.before.len()..self.bytes.len() - self.after.len()
     }
 
-    fn margins_kept(&self) -> bool {
+    pub fn inner(&self) -> &[u8] {
+        &self.bytes[self.place()]
+    }
+
+    pub fn margins_kept(&self) -> bool {
         self.bytes.starts_with(&self.before) && self.bytes.ends_with(&self.after)
     }
 }
@@ -135,7 +139,7 @@ impl Memory {
 
     /// The slot or the queue that is written.
     pub fn bytes(&self) -> &[u8] {
-        &self.bytes.bytes[self.bytes.place()]
+        self.bytes.inner()
     }
 
     pub fn bytes_mut(&mut self) -> &mut [u8] {

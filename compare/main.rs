@@ -22,6 +22,10 @@
 //! has the model read and the unit write them (linux.rs), and exits 0 if they came back
 //! byte for byte, but for bits that aren't looked at.
 //!
+//! `compare.out merge FILE FEATURES` takes such commands, merges single pages into ranges,
+//! has the unit check each batch of them, and wrong mergings, too (merge.rs). It exits 0 if
+//! every batch got a yes and every wrong merging its row.
+//!
 //! `compare.out wrong NAME` compares a wrong unit (wrong.rs) instead and has to
 //! exit 1; `compare.out wrong` does so for all of them and exits 0 if each was
 //! caught.
@@ -35,6 +39,7 @@ mod laws;
 mod lent;
 mod limits;
 mod linux;
+mod merge;
 mod model;
 mod modelled;
 mod phases;
@@ -68,6 +73,11 @@ fn main() -> ExitCode {
             return linux::written_back(file, features);
         }
     }
+    if let ["merge", file, features] = arguments[..] {
+        if let Some(features) = number(features) {
+            return merge::merged(file, features);
+        }
+    }
     let named = |name: &str| wrong::all().into_iter().find(|wrong| wrong.name == name);
     let asked = match arguments[..] {
         [] => Some((DEFAULT_SEED, None)),
@@ -76,7 +86,10 @@ fn main() -> ExitCode {
         _ => None,
     };
     let Some((seed, wrong)) = asked else {
-        eprintln!("usage: compare [seed] | compare linux file features | compare wrong [name]");
+        eprintln!(
+            "usage: compare [seed] | compare linux file features | compare merge file features | \
+             compare wrong [name]"
+        );
         return ExitCode::from(2);
     };
     compare(seed, wrong)
@@ -87,6 +100,7 @@ fn compare(seed: u64, wrong: Option<Wrong>) -> ExitCode {
     println!("seed {seed:#x}");
     watchdog::start(seed);
     let writes = wrong.as_ref().is_some_and(Wrong::writes);
+    let checks = wrong.as_ref().is_some_and(Wrong::checks);
     let mut checker = Checker::new(seed, wrong);
     phases::cases::cases(&mut checker);
     phases::reasons::cases::cases(&mut checker);
@@ -98,10 +112,14 @@ fn compare(seed: u64, wrong: Option<Wrong>) -> ExitCode {
     phases::regions::cases::cases(&mut checker);
     phases::events::cases::cases(&mut checker);
     phases::writer::cases::cases(&mut checker);
-    // No other wrong unit is caught by these, so that they come first for none but a
-    // wrong writer.
+    phases::check::cases::cases(&mut checker);
+    // No other wrong unit is caught by these, so that they come first for none but one
+    // that writes or checks wrongly.
     if writes {
         phases::writer::writer(&mut checker);
+    }
+    if checks {
+        phases::check::check(&mut checker);
     }
     phases::regions::regions(&mut checker);
     phases::hyp::hyp(&mut checker);
@@ -114,6 +132,9 @@ fn compare(seed: u64, wrong: Option<Wrong>) -> ExitCode {
     phases::ranges::ranges(&mut checker);
     if !writes {
         phases::writer::writer(&mut checker);
+    }
+    if !checks {
+        phases::check::check(&mut checker);
     }
     phases::commands::sweeps(&mut checker);
     phases::formats::sweeps(&mut checker);

@@ -1,7 +1,10 @@
 //! The model behind the C interface, watched by the tally.
 
-use crate::answers::{answer, filled, ran, reply, standing, transaction, translated, written};
+use crate::answers::{
+    answer, checked, filled, ran, reply, standing, transaction, translated, written,
+};
 use crate::call::{Asked, Call, Reply, EVENT_CALLS, FIRST_EVENT};
+use crate::model::check::check_batch;
 use crate::model::command::Features;
 use crate::model::control::Control;
 use crate::model::control_calls::{acknowledge, clear_pending, doorbell, enable};
@@ -51,6 +54,14 @@ pub fn perform(
         Call::WriteBatch { commands, features } => {
             let features = Features::from_bits(features);
             write_batch(kept, bytes, commands, features).map(|()| answer(&[]))
+        }
+        Call::CheckBatch {
+            original,
+            proposed,
+            features,
+        } => {
+            let features = Features::from_bits(features);
+            check_batch(kept, table, original, proposed, features).map(checked)
         }
         Call::EventWrite { record, allowance } => recorded(kept, record, allowance),
         Call::EventRead => events::read(kept).map(|record| answer(&record)),

@@ -80,6 +80,15 @@ fn print_call(call: &Call) {
             println!(" features {features:#x}, commands of {count} words");
             print_lines(commands, 4);
         }
+        Call::CheckBatch {
+            original,
+            proposed,
+            features,
+        } => {
+            println!(" features {features:#x}");
+            print_bytes("original", original);
+            print_bytes("proposed", proposed);
+        }
         Call::Fill {
             row,
             words,

@@ -1,5 +1,6 @@
 //! What was compared: a kind that never occurred has to be seen.
 
+mod check;
 mod commands;
 mod doubles;
 mod events;
@@ -11,6 +12,7 @@ mod upper;
 mod writer;
 
 use crate::call::{Call, Reply, EVENT_CALLS, FIRST_EVENT, NAMES};
+use check::Check;
 use commands::Commands;
 use doubles::Doubles;
 use events::Events;
@@ -33,8 +35,8 @@ const OUTCOMES: [&str; 6] = [
 ];
 const CONFIGS: [usize; 5] = [0, 4, 5, 6, 7];
 /// The refusals that there are.
-const REFUSALS: [usize; 22] = [
-    1, 2, 3, 4, 5, 6, 7, 8, 9, 10, 11, 12, 13, 14, 15, 16, 17, 18, 19, 20, 21, 22,
+const REFUSALS: [usize; 23] = [
+    1, 2, 3, 4, 5, 6, 7, 8, 9, 10, 11, 12, 13, 14, 15, 16, 17, 18, 19, 20, 21, 22, 23,
 ];
 const HIGHEST: usize = REFUSALS[REFUSALS.len() - 1];
 
@@ -56,6 +58,7 @@ pub struct Tally {
     pub regions: Regions,
     pub events: Events,
     pub writer: Writer,
+    pub check: Check,
     configs: [u64; 8],
     config_hits: [u64; 8],
 }
@@ -111,6 +114,7 @@ impl Tally {
         self.regions.print(&mut table);
         self.events.print(&mut table);
         self.writer.print(&mut table);
+        self.check.print(&mut table);
         table.missing
     }
 
@@ -156,12 +160,13 @@ fn refusable(call: usize, number: usize) -> bool {
         11 => NAMES[call] == "fill",
         10 => NAMES[call] == "translate",
         12 => NAMES[call] == "clear_pending",
-        13 | 14 => matches!(NAMES[call], "run" | "table_fill"),
+        13 | 14 => matches!(NAMES[call], "run" | "table_fill" | "check_batch"),
         17 => NAMES[call] == "event_read",
         18 => NAMES[call] == "event_acknowledge",
         19 => NAMES[call] == "write_command",
         20 | 21 => matches!(NAMES[call], "write_batch" | "write_command"),
         22 => NAMES[call] == "write_batch",
+        23 => NAMES[call] == "check_batch",
         _ => EVENT_CALLS.contains(&call),
     }
 }

@@ -46,6 +46,22 @@ pub fn perform(call: Call, lent: &mut Memory, answer: &mut Lent) -> u64 {
                 let (first, count) = (commands.as_ptr(), commands.len());
                 tahvenno_write_batch(memory, words, slots, length, first, count, features, answer)
             }
+            Call::CheckBatch {
+                original,
+                proposed,
+                features,
+            } => tahvenno_check_batch(
+                memory,
+                words,
+                table,
+                rows,
+                original.as_ptr(),
+                original.len(),
+                proposed.as_ptr(),
+                proposed.len(),
+                features,
+                answer,
+            ),
             Call::EventWrite { record, allowance } => {
                 tahvenno_event_write(memory, words, record.as_ptr(), allowance, answer)
             }

@@ -2,6 +2,7 @@
 //! catch each of them, and the gate sees to it.
 
 mod asked;
+mod check;
 mod doubles;
 mod events;
 mod forms;
@@ -62,6 +63,8 @@ enum Fault {
     Regions(regions::Fault),
     /// Commands and batches are written otherwise.
     Writer(writer::Fault),
+    /// Batches are checked otherwise.
+    Check(check::Fault),
 }
 
 pub struct Wrong {
@@ -147,6 +150,9 @@ fn requests() -> Vec<Wrong> {
     for (name, fault) in writer::all() {
         add(name, Fault::Writer(fault));
     }
+    for (name, fault) in check::all() {
+        add(name, Fault::Check(fault));
+    }
     all
 }
 
@@ -206,6 +212,11 @@ impl Wrong {
         matches!(self.fault, Fault::Writer(_))
     }
 
+    /// Whether it checks batches wrongly.
+    pub fn checks(&self) -> bool {
+        matches!(self.fault, Fault::Check(_))
+    }
+
     /// Makes the call as `unit::perform` does, with the fault.
     pub fn perform(&self, call: Call, kept: &mut Memory, answer: &mut Lent) -> u64 {
         match self.fault {
@@ -215,6 +226,7 @@ impl Wrong {
             Fault::Ranges(fault) => return fault.perform(call, kept, answer),
             Fault::Regions(fault) => return fault.perform(call, kept, answer),
             Fault::Writer(fault) => return fault.perform(call, kept, answer),
+            Fault::Check(fault) => return fault.perform(call, kept, answer),
             _ => (),
         }
         let before = kept.copy();

@@ -6,15 +6,15 @@
  * words, 1 to TAHVENNO_MAX_ROWS of them; their layout is below. `table` points to the second table, `table_words` words: rows of
  * two words, 1 to TAHVENNO_MAX_REGIONS of them (REGIONS, below). `queue` points to the guest's command queue, `bytes` bytes of 16 a
  * slot, and `slot` to one of its slots; only the writers write there (WRITERS, below). `fields` points to the 16 words of one
- * command, `commands` to those of several, `command_words` words. `events` points to the recorder's words, which are no part of the
+ * command, `commands` to those of several, `command_words` words; `original` and `proposed` to batches as a queue has them. `events` points to the recorder's words, which are no part of the
  * kept memory, and `record` to 32 bytes (THE RECORDER, below). `answer` points to eight words that the call fills, those not named
  * below with zero. The unit keeps no pointer and no state of its own between calls, allocates nothing, and needs no function of a C
  * library.
  *
  * The caller sees to this, since the proof takes it for granted:
  *
- *   - No pointer is null, also where a length is 0. What is lent to one call does not overlap.
- *   - kept, table, events, fields, commands and answer are aligned to 8 bytes. The queue, a slot and a record may stand anywhere in
+ *   - No pointer is null, also where a length is 0. What is lent to one call does not overlap, but for `original` and `proposed`.
+ *   - kept, table, events, fields, commands and answer are aligned to 8 bytes. The queue, a slot, a batch and a record may stand anywhere in
  *     Normal memory; where a load or store that is not aligned faults (Device memory, alignment checking), align them to 8 bytes
  *     too: compiled code loads and stores several of their bytes at once.
  *   - Until a call returns nobody else writes to what is lent to it. So lend a run a private copy of the guest's queue, or stop the
@@ -38,10 +38,10 @@
  *   10  translate: MemAttr, SH or hints are ill formed or too wide
  *   11  fill: the new row and one that is there could answer the same access
  *   12  clear_pending: no interrupt is pending
- *   13  run, table_fill: the second table's length is not 2 N words, N from 1 to TAHVENNO_MAX_REGIONS
- *   14  run, table_fill: a row of the second table is ill formed; answer[0] is the lowest such row, counted from 0
+ *   13  run, table_fill, check_batch: the second table's length is not 2 N words, N from 1 to TAHVENNO_MAX_REGIONS
+ *   14  the same three: a row of the second table is ill formed; answer[0] is the lowest such row, counted from 0
  *   15  event_write, event_read, event_acknowledge: the length is not 1 + 4 x 2^n words, n from 0 to TAHVENNO_MAX_EVENT_N
- *   16  the same three: the index word is ill formed, or its n is not that of the length
+ *   16  the recorder's three: the index word is ill formed, or its n is not that of the length
  *   17  event_read: no record waits
  *   18  event_acknowledge: no overflow is outstanding
  *   19  write_command: the slot is not 16 bytes
@@ -49,6 +49,7 @@
  *   21  the same two: the code is unknown, or a field is too wide, or not 0 though the command does not have it, or would make the
  *       command illegal, or a batch's last command has fewer than 16 words; of a batch answer[0] is the command, counted from 0
  *   22  write_batch: more commands than the queue has free slots
+ *   23  check_batch: the length of a batch is not a multiple of 16 bytes
  *
  * 1, 2 and 3 are tried first, by every call on kept memory, then 13 and 14 by the calls that are lent the second table, then the
  * others in this order; but a batch gets the 20 or 21 of its first bad command, whichever of the two that is. The calls on the
@@ -117,6 +118,14 @@
  * that is not a multiple of the size, is consumed and takes no row. Neither code takes a row of the kept memory, and no other code
  * takes one of the second table. Without TAHVENNO_DPT both are illegal (TAHVENNO_FEATURE_ABSENT). The counts of a run have the
  * second table's rows in them. No transaction looks at it, and table_fill knows no doubles: it never gives 11.
+ *
+ * BATCHES. check_batch tells whether a shorter batch of invalidations may stand for a longer one: `original` and `proposed` point
+ * to commands of 16 bytes each, as a queue has them, none or more; both are only read, and may be one. A command qualifies if it is
+ * legal with these features and an invalidation (codes 03 to 30, 70 and 73; not 01, 02 and 46), whether or not it would remove a
+ * row. The call tells the first that does not, looking through the whole of the original first. If all qualify, it compares what
+ * each batch would leave of these rows, of both tables, whatever the control word lets a run do: it says yes, or names the lowest
+ * row that would differ. Nothing is stored. The answer is about these rows and features: after a fill or a table_fill, or where
+ * E2H is changed, ask again. A yes is still one after a run has removed rows.
  *
  * THE INTERRUPT. A guest asks by CMD_SYNC with CS 1 to be interrupted once the commands before it are done. The store that moves
  * RD past such a command also sets PENDING in the control word, and nothing but clear_pending takes it away. So whenever PENDING
@@ -425,6 +434,9 @@ enum {
 /* How a fill of either table ends, in answer[0]. */
 enum { TAHVENNO_FILLED, TAHVENNO_FILL_CUT };
 
+/* What check_batch tells, in answer[0]. */
+enum { TAHVENNO_SAME, TAHVENNO_UNFIT, TAHVENNO_DIFFER };
+
 /* How an event_write ends, in answer[0]. */
 enum { TAHVENNO_EVENT_STORED, TAHVENNO_EVENT_DROPPED, TAHVENNO_EVENT_CUT };
 
@@ -474,6 +486,13 @@ uint64_t tahvenno_clear_pending(uint64_t *kept, size_t words, uint64_t answer[8]
  * an address that address, MemAttr, SH, hints, instruction (0 or 1), privileged (0 or 1). */
 uint64_t tahvenno_translate(const uint64_t *kept, size_t words, uint32_t stream, uint32_t substream, uint64_t address,
                             uint64_t how, uint64_t memattr, uint64_t sh, uint64_t hints, uint64_t answer[8]);
+
+/* Compares two batches of invalidations; kept memory and the second table are only read. answer: TAHVENNO_SAME; or TAHVENNO_UNFIT,
+ * 0 for the original or 1 for the proposed batch, and the command in it, counted from 0; or TAHVENNO_DIFFER and the row, counted
+ * from 0, those of the second table behind those of the kept memory. */
+uint64_t tahvenno_check_batch(const uint64_t *kept, size_t words, const uint64_t *table, size_t table_words,
+                              const uint8_t *original, size_t original_bytes, const uint8_t *proposed, size_t proposed_bytes,
+                              uint64_t features, uint64_t answer[8]);
 
 /* answer: RD, WR, ERR, whether an error is active (0 or 1), whether the queue is enabled (0 or 1), used rows. */
 uint64_t tahvenno_state(const uint64_t *kept, size_t words, uint64_t answer[8]);

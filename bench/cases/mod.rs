@@ -1,5 +1,6 @@
 //! What is measured: full tables and full queues, of two sizes.
 
+mod batches;
 mod chains;
 mod linux;
 mod mixed;
@@ -71,6 +72,11 @@ pub enum Work {
         queues: Vec<Vec<u8>>,
         features: u64,
     },
+    /// An original and what is proposed for it.
+    Check {
+        batches: [Vec<u8>; 2],
+        features: u64,
+    },
     Translate(Asked),
     /// The row, and the words that it gets.
     Fill(u64, Words),
@@ -137,15 +143,16 @@ impl Case {
     pub fn calls(&self) -> usize {
         match &self.work {
             Work::Runs { queues, .. } => queues.len(),
-            Work::Translate(_) | Work::Fill(..) => 1,
+            Work::Check { .. } | Work::Translate(_) | Work::Fill(..) => 1,
         }
     }
 
     /// How many of what a figure is about the calls make.
     pub fn parts(&self) -> u64 {
-        let each = match self.per {
-            Per::Command => self.size.commands(),
-            Per::Call => 1,
+        let each = match (self.per, &self.work) {
+            (Per::Command, Work::Check { .. }) => 2 * self.size.commands(),
+            (Per::Command, _) => self.size.commands(),
+            (Per::Call, _) => 1,
         };
         (each * self.calls()) as u64
     }
@@ -184,6 +191,16 @@ pub fn all() -> Vec<Case> {
             "m",
             "as b, beside a full second table",
             pages::by_address("b", "", USUAL),
+        ),
+        batches::check(
+            "n",
+            "a check of h's commands in another order",
+            pages::by_address("h", "", LARGEST),
+        ),
+        batches::check(
+            "o",
+            "a check of g's commands in another order",
+            mixed::case("g", "", LARGEST),
         ),
     ]
 }

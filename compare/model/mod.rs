@@ -6,6 +6,7 @@
 //! function beside the sentence that it cites.
 
 pub mod attributes;
+pub mod check;
 pub mod command;
 pub mod control;
 pub mod control_calls;

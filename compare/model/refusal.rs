@@ -1,5 +1,5 @@
 //! The ways of saying no (document 01, When the unit says no; document 02, T-01,
-//! T-02, T-08, T-10 and T-11).
+//! T-02, T-08 and T-10 to T-12).
 
 #[derive(Clone, Copy, Debug, PartialEq, Eq)]
 pub enum Refusal {
@@ -30,6 +30,7 @@ pub enum Refusal {
     /// A command's fields make none that is legal. Carries its number, too.
     Fields(usize),
     NoRoom,
+    BatchLength,
 }
 
 impl Refusal {
@@ -57,6 +58,7 @@ impl Refusal {
             Refusal::FeatureAbsent(_) => 20,
             Refusal::Fields(_) => 21,
             Refusal::NoRoom => 22,
+            Refusal::BatchLength => 23,
         }
     }
 }

@@ -2,6 +2,7 @@
 
 pub mod attributes;
 pub mod cases;
+pub mod check;
 pub mod commands;
 pub mod controls;
 pub mod cuts;

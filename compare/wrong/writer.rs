@@ -65,7 +65,7 @@ pub struct Slot {
 }
 
 const WRITE_BATCH: usize = 9;
-const WRITE_COMMAND: usize = 13;
+const WRITE_COMMAND: usize = 14;
 
 /// Every wrong unit with its name.
 pub fn all() -> Vec<(String, Fault)> {

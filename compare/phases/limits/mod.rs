@@ -116,6 +116,15 @@ pub fn places(rows: u64) -> Vec<u64> {
     places
 }
 
+/// The batch beside itself.
+fn check(batch: &[u8]) -> Call<'_> {
+    Call::CheckBatch {
+        original: batch,
+        proposed: batch,
+        features: ALL,
+    }
+}
+
 /// Every call once, as an accepted memory would take it.
 pub fn every_call(checker: &mut Checker, kept: &[u64], queue: &[u8]) {
     let run = Call::Run {
@@ -144,6 +153,7 @@ pub fn every_call(checker: &mut Checker, kept: &[u64], queue: &[u8]) {
         Call::State,
         Call::ClearPending,
         table_fill,
+        check(&queue[..0]),
     ];
     for call in calls {
         checker.call(&mut kept.to_vec(), call);
@@ -190,6 +200,7 @@ fn every_refused(checker: &mut Checker, kept: &[u64]) {
         Call::ClearPending,
         table_fill(0),
         table_fill(u64::MAX),
+        check(&[0]),
     ];
     for call in calls {
         checker.call(&mut kept.to_vec(), call);

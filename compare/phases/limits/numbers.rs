@@ -10,7 +10,7 @@ use super::{asked, bytes, chain, first, second, table, waiting, ALL, AS_IT_COMES
 use super::{ASID, MIDDLE, OUTPUT, PAGE, STAGE1_PAYLOAD, STREAM, SUBSTREAM, VMID, WRITE_BACK};
 use crate::call::{Call, NUMBERS};
 use crate::checker::Checker;
-use crate::generate::commands::{DPT, RIL};
+use crate::generate::commands::{DPT, KNOWN, RIL};
 use crate::generate::images::with_rows;
 use crate::generate::ranges::Range;
 use crate::generate::regions::{about, empty, region, with_regions};
@@ -24,6 +24,7 @@ pub fn sweeps(checker: &mut Checker) {
     fills(checker);
     table_fills(checker);
     runs(checker);
+    checks(checker);
     controls(checker);
 }
 
@@ -157,6 +158,37 @@ fn runs(checker: &mut Checker) {
                 queue: &queue,
                 features,
                 allowance,
+            };
+            sweep_beside(checker, &kept, &table, call);
+        }
+    }
+}
+
+/// Each command alone against none, over the rows that it takes.
+fn checks(checker: &mut Checker) {
+    let rows = [
+        first().page(OUTPUT, STAGE1_PAYLOAD),
+        second(PAGE).page(OUTPUT, WRITE_BACK),
+    ];
+    let (kept, table) = (
+        with_rows(waiting(0, 0), &rows),
+        with_regions(&[region(0, true, PAGE)]),
+    );
+    let (vmid, asid) = (VMID << 32, ASID << 48);
+    for command in [
+        (0x10 | vmid, 0),
+        (0x11 | vmid | asid | 1 << 56, 0),
+        (0x28 | vmid | 1 << 40, 0),
+        Range::new(1, 1, 0).over((0x2A | vmid, PAGE)),
+        (0x20, 0),
+        (0x73, PAGE),
+    ] {
+        let batch = bytes(&[command]);
+        for features in [0, ALL, ALL | RIL | DPT, KNOWN] {
+            let call = Call::CheckBatch {
+                original: &batch,
+                proposed: &[],
+                features,
             };
             sweep_beside(checker, &kept, &table, call);
         }

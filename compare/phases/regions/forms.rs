@@ -68,8 +68,8 @@ fn bases(checker: &mut Checker, code: u64) {
 
 const LAW: &str = "a row isn't well formed as T-11 has it";
 
-/// The words as a row of a table, between others, and as those of a fill. Row 1 is the
-/// one that 14 names; a table that is accepted has no row 3.
+/// The words as a row of a table, between others, by a run, a check and a fill, and as
+/// those of a fill. Row 1 is the one that 14 names; a table that is accepted has no row 3.
 fn either(checker: &mut Checker, words: Pair) {
     let good = words[0] == 0 || formed(words);
     let rows = [region(0, true, MIDDLE), words, region(3, false, 0)];
@@ -77,6 +77,10 @@ fn either(checker: &mut Checker, words: Pair) {
     let queue = bytes(&[(0x46, 0)]);
     let run = run(&queue, ALL, u64::MAX);
     called(checker, &table, run, |reply| match good {
+        true => reply.number == 0,
+        false => (reply.number, reply.answer[0]) == (14, 1),
+    });
+    called(checker, &table, check(&queue[..0]), |reply| match good {
         true => reply.number == 0,
         false => (reply.number, reply.answer[0]) == (14, 1),
     });
@@ -89,6 +93,15 @@ fn either(checker: &mut Checker, words: Pair) {
     called(checker, &with_regions(&room), fill(1, words, 2), |reply| {
         reply.number == number
     });
+}
+
+/// A check of the batch beside itself.
+fn check(batch: &[u8]) -> Call<'_> {
+    Call::CheckBatch {
+        original: batch,
+        proposed: batch,
+        features: ALL,
+    }
 }
 
 /// A call on a plain memory beside the table, whose reply has to be right.
@@ -110,7 +123,7 @@ fn lengths(checker: &mut Checker) {
     let lost = LOST
         .into_iter()
         .flat_map(|lost| [lost, lost + 2, lost + most]);
-    let queue = bytes(&[(0x46, 0)]);
+    let (queue, batch) = (bytes(&[(0x46, 0)]), bytes(&[(0x70, 0)]));
     for length in near.chain(lost) {
         let good = length % 2 == 0 && (2..=most).contains(&length);
         for word in [0, 2] {
@@ -122,6 +135,8 @@ fn lengths(checker: &mut Checker) {
             };
             let run = run(&queue, ALL, u64::MAX);
             called(checker, &table, run, |reply| reply.number == number);
+            let check = check(&batch);
+            called(checker, &table, check, |reply| reply.number == number);
             let words = region(0, true, MIDDLE);
             called(checker, &table, fill(0, words, 2), |reply| {
                 reply.number == number

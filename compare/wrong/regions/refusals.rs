@@ -36,6 +36,7 @@ pub enum Fault {
 
 const RUN: usize = 0;
 const TABLE_FILL: usize = 8;
+const CHECK_BATCH: usize = 10;
 
 const REFUSED: [(&str, fn(&Region) -> bool); 9] = [
     ("a region that is not last-level", |row| {
@@ -197,6 +198,9 @@ pub fn all() -> Vec<(String, Wrong)> {
             }
         }
         add(format!("{name}: 14 before 13"), Fault::Early(call, 14, 13));
+    }
+    for call in [RUN, TABLE_FILL, CHECK_BATCH] {
+        let name = NAMES[call];
         for (what, test) in REFUSED {
             add(
                 format!("{name}: {what} refused"),
@@ -247,7 +251,7 @@ fn aligned(Region([word, base]): Region, but: u64) -> Region {
 
 impl Fault {
     pub fn perform(self, call: Call, memory: &mut Memory, answer: &mut Lent) -> u64 {
-        if !matches!(call.index(), RUN | TABLE_FILL) {
+        if !matches!(call.index(), RUN | TABLE_FILL | CHECK_BATCH) {
             return unit::perform(call, memory, answer);
         }
         match self {

@@ -2,16 +2,17 @@
 use crate::show;
 use attributes::Attributes;
 
-// c asks for the state; r runs with features and an allowance, and u tells the second table too; f fills a row with four words under an allowance; g fills one of the
-// second table with two; d rings with a WR; a acknowledges; p clears the pending bit; e enables or disables; t translates. Of a
-// recorder w writes four words under an allowance, o reads the oldest, x acknowledges. A call that may store also tells every word
-// afterwards of what it stores to.
+// c asks for the state; r runs with features and an allowance, and u tells the second table too; f fills a row with four words under
+// an allowance; g fills one of the second table with two; d rings with a WR; a acknowledges; p clears the pending bit; e enables or
+// disables; t translates. b checks, under features, the batch that ends at one byte of the queue beside that which begins at
+// another. Of a recorder w writes four words under an allowance, o reads the oldest, x acknowledges. A call that may store also tells
+// every word afterwards of what it stores to.
 pub fn call(verb: u8, w: [u64; 8], kept: &mut [u64], table: &mut [u64], queue: &[u8]) {
     let mut answer = [0u64; 8];
     let code = made(verb, w, &mut *kept, &mut *table, queue, &mut answer);
     show::reply(verb, code, answer);
     match verb {
-        b'c' | b't' => text::say(b"\n"),
+        b'b' | b'c' | b't' => text::say(b"\n"),
         b'g' => text::listed(b"; table", &*table),
         b'u' => {
             text::listed(b"; kept", &*kept);
@@ -42,6 +43,7 @@ fn made(
             w[3],
             &mut *answer,
         ),
+        b'b' => checked(&*kept, &*table, queue, w, &mut *answer),
         b'd' => host::tahvenno_doorbell(&mut *kept, w[0], &mut *answer),
         b'a' => host::tahvenno_acknowledge(&mut *kept, &mut *answer),
         b'p' => host::tahvenno_clear_pending(&mut *kept, &mut *answer),
@@ -51,6 +53,26 @@ fn made(
         b'x' => host::tahvenno_event_acknowledge(&mut *kept, &mut *answer),
         _ => translated(&*kept, w, &mut *answer),
     }
+}
+
+// Where the queue has no such bytes, nothing is asked.
+fn checked(kept: &[u64], table: &[u64], queue: &[u8], w: [u64; 8], answer: &mut [u64; 8]) -> u64 {
+    let end = w[1] as usize;
+    let start = w[2] as usize;
+    if queue.len() < end {
+        return 0;
+    }
+    if queue.len() < start {
+        return 0;
+    }
+    host::tahvenno_check_batch(
+        kept,
+        table,
+        &queue[..end],
+        &queue[start..],
+        w[0],
+        &mut *answer,
+    )
 }
 
 fn written(events: &mut [u64], w: [u64; 8], answer: &mut [u64; 8]) -> u64 {

@@ -17,12 +17,24 @@ fn done(verb: u8, w: [u64; 8]) {
             b"accepted, RD 0x$, WR 0x$, ERR #, active #, enabled #, used #",
             w,
         ),
+        b'b' => batch(w),
         b'r' | b'u' => run(w),
         b'f' | b'g' => told(b"{Filled|Cut}, stores #", w),
         b't' => outcome(w),
         b'w' => told(b"{Stored|Dropped|Cut}, stores #", w),
         b'o' => told(b"record $ $ $ $", w),
         _ => text::say(b"accepted"),
+    }
+}
+
+fn batch(w: [u64; 8]) {
+    match w[0] {
+        0 => text::say(b"yes"),
+        1 => told(
+            b"command # of the {original|proposed} batch",
+            [w[2], w[1], 0, 0, 0, 0, 0, 0],
+        ),
+        _ => told(b"row # differs", [w[1], 0, 0, 0, 0, 0, 0, 0]),
     }
 }
 

@@ -27,7 +27,7 @@ pub enum Stepped {
 }
 
 // Row i is of the first table or, behind those, of the second.
-fn scoped_at(kept: &[u64], table: &[u64], f: Features, c: Command, i: usize) -> bool
+pub fn scoped_at(kept: &[u64], table: &[u64], f: Features, c: Command, i: usize) -> bool
     requires { ⌜ Whole (both (now kept) (now table)) × (i < rowsIn (both (now kept) (now table))) ⌝ }
     ensures { λ r. ⌜ r ≡ scopedAt f c (both (now (kept .entry)) (now (table .entry))) i ⌝ }
 {
@@ -39,7 +39,7 @@ fn scoped_at(kept: &[u64], table: &[u64], f: Features, c: Command, i: usize) -> 
 }
 
 // How many rows need be looked at: a command that is not about the second table does not pay for it.
-fn rows_for(c: Command, rows: usize, more: usize) -> usize
+pub fn rows_for(c: Command, rows: usize, more: usize) -> usize
     requires { ⌜ rows + more < 2 ^ 64 ⌝ }
     ensures { λ r. ⌜ r ≡ pick (isRegional c) (rows + more) rows ⌝ }
 {

@@ -12,6 +12,7 @@ use Rattle.memory.specs.Memory.{Memory}
 use Rattle.runs.specs.Call as runs
 use Rattle.fills.specs.Fills as fills
 use Rattle.region_fills.specs.Fills as region-fills
+use Rattle.batches.specs.Batches as batches
 use Rattle.control_calls.specs.Calls as control-calls
 use Rattle.event_calls.specs.Calls as event-calls
 use Rattle.transactions.specs.declared.Transaction.{Transaction}
@@ -25,6 +26,7 @@ use Rattle.interface.specs.Replies.{runReply, fillReply, doorbellReply, acknowl
 use Rattle.interface.specs.Recorded.{eventWriteReply, eventReadReply, eventAcknowledgeReply}
 use Rattle.interface.specs.Tables.{tableFillReply}
 use Rattle.interface.specs.Writers.{writeReply, batchReply}
+use Rattle.interface.specs.Checked.{checkReply}
 use Rattle.host.specs.Told.{telling}
 
 -- with document 02, T-11: the kept memory and the second table
@@ -62,9 +64,13 @@ eventRead m = telling eventReadReply (event-calls.read m)
 abbrev pub eventAcknowledge : List ℕ → Outcome (List ℕ) Reply
 eventAcknowledge m = telling eventAcknowledgeReply (event-calls.acknowledge m)
 
--- these two only read
+-- these only read
 abbrev pub translate : Transaction → List ℕ → Reply
 translate t m = translateReply (transactions.translate m t)
+
+-- document 02, T-12: both tables are only read
+abbrev pub checkBatch : ℕ → List ℕ → List ℕ → Memory → Reply
+checkBatch features original proposed m = checkReply (batches.check (featuresOf features) original proposed m)
 
 abbrev pub state : List ℕ → Reply
 state m = stateReply (states.stateOf m)

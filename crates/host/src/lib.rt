@@ -8,7 +8,7 @@ ghost use Rattle.interface.specs.Asked.{transactionOf};
 ghost use Rattle.memory.specs.Memory.{both};
 ghost use Rattle.batch_writes.specs.Batch.{lent};
 ghost use Rattle.host.specs.Told.{Told, Leaves};
-ghost use Rattle.host.specs.Calls.{run, fill, tableFill, doorbell, acknowledge, clearPending, enable, eventWrite, eventRead, eventAcknowledge, translate, state, writeCommand, writeBatch};
+ghost use Rattle.host.specs.Calls.{run, fill, tableFill, doorbell, acknowledge, clearPending, enable, eventWrite, eventRead, eventAcknowledge, translate, checkBatch, state, writeCommand, writeBatch};
 
 // Puts a reply's words into the answer, and hands back its number.
 fn tell(answer: &mut [u64; 8], reply: Reply) -> u64
@@ -142,6 +142,28 @@ pub extern "C" fn tahvenno_state(kept: &[u64], answer: &mut [u64; 8]) -> u64
         &mut *answer,
         interface::state_reply(image_state::state_of(kept)),
     )
+}
+
+// Document 02, T-12: nothing is stored, whatever the answer is.
+#[no_mangle]
+pub extern "C" fn tahvenno_check_batch(
+    kept: &[u64],
+    table: &[u64],
+    original: &[u8],
+    proposed: &[u8],
+    features: u64,
+    answer: &mut [u64; 8],
+) -> u64
+    ensures { λ r. ⌜ Told (checkBatch features (now (original .entry)) (now (proposed .entry)) (both (now (kept .entry)) (now (table .entry)))) (now (answer .exit)) r ⌝ }
+{
+    let a = batches::check(
+        kept,
+        table,
+        original,
+        proposed,
+        commands::features_of(features),
+    );
+    tell(&mut *answer, interface::check_reply(a))
 }
 
 // The recorder, in words of its own.

@@ -3,3 +3,4 @@ pub mod Replies
 pub mod Recorded
 pub mod Tables
 pub mod Writers
+pub mod Checked

@@ -1,6 +1,7 @@
 // Between the unit's types and C's words: what a C caller asks, and what it is told.
 mod answers;
 mod asked;
+mod checked;
 mod recorded;
 mod tables;
 mod writers;
@@ -14,6 +15,7 @@ pub use answers::run_reply;
 pub use answers::state_reply;
 pub use answers::translate_reply;
 pub use asked::transaction_of;
+pub use checked::check_reply;
 pub use recorded::event_acknowledge_reply;
 pub use recorded::event_read_reply;
 pub use recorded::event_write_reply;

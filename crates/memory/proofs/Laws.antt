@@ -1,19 +1,19 @@
 -- What a store of a run does to its memory, in place of how the memory lies in words.
 -- Assumes nothing.
-use mathlib.Core.Path.{_≡_, refl, sym, ap, _∙_}
+use mathlib.Core.Path.{_≡_, refl, sym, ap, ap₂, _∙_}
 use mathlib.Core.Bool.{Bool, true, false, not}
 use mathlib.Core.List.{List}
 use mathlib.Core.Logic.{_⊎_, inl, inr, ⊎-elim}
-use Prim.Native.Nat.{ℕ, suc, _+_, _-_, _*_, _/_, _≤_, _<_}
+use Prim.Native.Nat.{ℕ, suc, _+_, _-_, _*_, _/_, _%_, _≤_, _<_}
 use native.Mathlib.Decide.{ℕ-discrete}
 use native.Mathlib.Omega.{arith}
 use lib.Dec.{eqb, ltb}
 use lib.ListN.{length, getD, set, length-set}
-use lib.Seq.{getD-set-same, getD-set-other}
+use lib.Seq.{getD-set-same, getD-set-other, ext-getD}
 use borrow.Author.Tests.{eq-eqb, eqb-true, not-false, ltb-true, ltb-false, lt-ltb, le-ltb, not-true}
 use Rattle.words.specs.Choice.{pick}
 use Rattle.words.proofs.Search.{count-same, count-less}
-use Rattle.words.proofs.Truth.{decided, clash}
+use Rattle.words.proofs.Truth.{decided, clash, less-or-not}
 use Rattle.control.specs.Control as control
 use Rattle.rows.specs.declared.Row.{Row}
 use Rattle.commands.specs.declared.Features.{Features}
@@ -29,7 +29,7 @@ use Rattle.regions.proofs.Checks as tables
 use Rattle.regions.proofs.AfterStores as regions
 use Rattle.region_scopes.specs.Scopes.{isRegional, inTable}
 use Rattle.region_scopes.proofs.Laws as region-scopes
-use Rattle.memory.specs.Memory.{Memory, controlOf, keptRows, tableRows, rowsIn, isKept, behind, word0, isUsed, usedRows, scopedAt, Place, Control, Word0, inKept, inSecond, put, stored, cleared, Whole, SameSize, Untouched}
+use Rattle.memory.specs.Memory.{Memory, controlOf, keptRows, tableRows, rowsIn, isKept, behind, word0, isUsed, usedRows, scopedAt, Place, Control, Word0, inKept, inSecond, put, stored, cleared, Whole, SameSize, Untouched, SameRows, both}
 
 -- memory of n rows that refusals 1 to 3, 13 and 14 accept
 pub record Accepts (m : Memory) (n : ℕ) : Type 0 where
@@ -142,11 +142,11 @@ module _ {m m′ : Memory} (s : SameSize m m′) where
   pub same-whole : Whole m′ → Whole m
   same-whole w = omega (arith, w, s .kept, same-kept-rows)
 
-  same-side : (i : ℕ) → isKept m i ≡ isKept m′ i
+  pub same-side : (i : ℕ) → isKept m i ≡ isKept m′ i
   unfolding isKept
   same-side i = ap (λ (k : ℕ). ltb i k) same-kept-rows
 
-  same-behind : (i : ℕ) → behind m i ≡ behind m′ i
+  pub same-behind : (i : ℕ) → behind m i ≡ behind m′ i
   same-behind i = ap (λ (k : ℕ). i - k) same-kept-rows
 
 module _ (m : Memory) where
@@ -372,6 +372,15 @@ untouched-cleared n m m′ i h u =
     behind-other p y (inl e) = ap (λ (x : Memory). getD (x .table) p 0) (cleared-kept m i e)
     behind-other p y (inr e) = ap (λ (x : Memory). getD (x .table) p 0) (cleared-behind m i e) ∙ getD-set-other (m .table) (2 * behind m i) p 0 0 (λ q. y i h e q)
 
+pub untouched-through : {n : ℕ} {a b c : Memory} → Untouched n a b → Untouched n b c → Untouched n a c
+untouched-through {a = a} {b} u v =
+    let side : (i : ℕ) → isKept b i ≡ isKept a i = λ i. same-side (u .long) i in
+    record {
+      kept = λ p x y. v .kept p x (λ i h e. y i h (sym (side i) ∙ e)) ∙ u .kept p x y;
+      table = λ p y. v .table p (λ i h e q. y i h (sym (side i) ∙ e) (q ∙ ap (λ (k : ℕ). 2 * k) (same-behind (u .long) i))) ∙ u .table p y;
+      long = size-through (v .long) (u .long);
+    }
+
 -- a row whose word 0 is as it was is in the scopes that it was in
 pub same-scopes : (f : Features) (c : Command) (n : ℕ) (m m′ : Memory) → Untouched n m m′ → (i : ℕ) → word0 m′ i ≡ word0 m i → scopedAt f c m′ i ≡ scopedAt f c m i
 same-scopes f c n m m′ u i w = same-scope m m′ i (record { size = u .long; kept = in-first; table = in-second }) f c
@@ -392,6 +401,63 @@ same-scopes f c n m m′ u i w = same-scope m m′ i (record { size = u .long; k
             rw z
             (ap (λ (k : ℕ). getD (m′ .table) (2 * k) 0) (sym (same-behind (u .long) i)) ∙ sym (word-behind m′ i (same-side (u .long) i ∙ e)) ∙ w ∙ word-behind m i e)
         by-word (no d) = u .table (2 * behind m i + q) (λ j l e p. d (omega arith))
+
+-- two memories that differ from one in no word but these have the same rows where those words are the same
+module _ (n : ℕ) (m a b : Memory) (accepted : Accepts m n) (u : Untouched n m a) (v : Untouched n m b) (words : (i : ℕ) → i < n → word0 a i ≡ word0 b i) where
+  kept-word : (i : ℕ) → i < keptRows m → getD (a .kept) (4 * i + 1) 0 ≡ getD (b .kept) (4 * i + 1) 0
+  kept-word i h =
+      let e = is-kept m i h in
+      sym (word-kept a i (same-side (u .long) i ∙ e)) ∙ words i (omega (arith, rows-are m n accepted)) ∙ word-kept b i (same-side (v .long) i ∙ e)
+
+  table-word : (i : ℕ) → i < tableRows m → getD (a .table) (2 * i) 0 ≡ getD (b .table) (2 * i) 0
+  table-word i h =
+      let r = keptRows m + i in
+      let e = is-behind m r (omega arith) in
+      let place : behind m r ≡ i = omega arith in
+      ap (λ (k : ℕ). getD (a .table) (2 * k) 0) (sym (same-behind (u .long) r ∙ place)) ∙ sym (word-behind a r (same-side (u .long) r ∙ e))
+      ∙ words r (omega (arith, rows-are m n accepted))
+      ∙ word-behind b r (same-side (v .long) r ∙ e) ∙ ap (λ (k : ℕ). getD (b .table) (2 * k) 0) (same-behind (v .long) r ∙ place)
+
+  pub same-words : SameRows a b
+  same-words =
+      record {
+        long = u .long .kept ∙ sym (v .long .kept);
+        kept = λ p x. in-first p x (less-or-not (p / 4) (keptRows m)) (ℕ-discrete (p % 4) 1);
+        table = ext-getD 0 (a .table) (b .table) (u .long .table ∙ sym (v .long .table)) (λ p h. in-second p (less-or-not (p / 2) (tableRows m)) (ℕ-discrete (p % 2) 0));
+      }
+    where
+      in-first : (p : ℕ) → (p ≡ 0 → ⊥) → (p / 4 < keptRows m) ⊎ (keptRows m ≤ p / 4) → Dec (p % 4 ≡ 1) → getD (a .kept) p 0 ≡ getD (b .kept) p 0
+      in-first p x (inl h) (yes e) = let q : 4 * (p / 4) + 1 ≡ p = omega arith in rw q at (kept-word (p / 4) h)
+      in-first p x (inl h) (no d) = u .kept p x (λ i l k q. d (omega arith)) ∙ sym (v .kept p x (λ i l k q. d (omega arith)))
+      in-first p x (inr h) e =
+          let out : (i : ℕ) → i < n → isKept m i ≡ true → p ≡ 4 * i + 1 → ⊥ = λ i l k q. omega (arith, kept-below m i k) in
+          u .kept p x out ∙ sym (v .kept p x out)
+
+      in-second : (p : ℕ) → (p / 2 < tableRows m) ⊎ (tableRows m ≤ p / 2) → Dec (p % 2 ≡ 0) → getD (a .table) p 0 ≡ getD (b .table) p 0
+      in-second p (inl h) (yes e) = let q : 2 * (p / 2) ≡ p = omega arith in rw q at (table-word (p / 2) h)
+      in-second p (inl h) (no d) = u .table p (λ i l k q. d (omega arith)) ∙ sym (v .table p (λ i l k q. d (omega arith)))
+      in-second p (inr h) e =
+          let out : (i : ℕ) → i < n → isKept m i ≡ false → p ≡ 2 * behind m i → ⊥ =
+          λ i l k q. omega (arith, behind-from m i k, rows-are m n accepted) in
+          u .table p out ∙ sym (v .table p out)
+
+-- one of them is the other with its own control word
+pub only-control : (a b : Memory) → SameRows a b → 0 < length (a .kept) → b ≡ stored a (controlOf b)
+only-control a b s some =
+    ap₂ both
+    (ext-getD 0 (b .kept) (set (a .kept) 0 (controlOf b)) (sym (s .long) ∙ sym (length-set (a .kept) 0 (controlOf b))) (λ p h. by-place p (ℕ-discrete p 0)))
+    (sym (s .table))
+  where
+    by-place : (p : ℕ) → Dec (p ≡ 0) → getD (b .kept) p 0 ≡ getD (set (a .kept) 0 (controlOf b)) p 0
+    by-place p (yes e) = rw e (sym (getD-set-same (a .kept) 0 (controlOf b) 0 some))
+    by-place p (no d) = sym (s .kept p d) ∙ sym (getD-set-other (a .kept) 0 p (controlOf b) 0 d)
+
+pub same-memory : (a b : Memory) → SameRows a b → controlOf a ≡ controlOf b → a ≡ b
+same-memory a b s word = ap₂ both (ext-getD 0 (a .kept) (b .kept) (s .long) (λ p h. by-place p (ℕ-discrete p 0))) (s .table)
+  where
+    by-place : (p : ℕ) → Dec (p ≡ 0) → getD (a .kept) p 0 ≡ getD (b .kept) p 0
+    by-place p (yes e) = rw e word
+    by-place p (no d) = s .kept p d
 
 -- used rows
 module _ (m : Memory) (n : ℕ) where

@@ -95,3 +95,9 @@ pub record Untouched (n : ℕ) (m m′ : Memory) : Type 0 where
   pub kept : (p : ℕ) → (p ≡ 0 → ⊥) → ((i : ℕ) → i < n → isKept m i ≡ true → p ≡ 4 * i + 1 → ⊥) → getD (m′ .kept) p 0 ≡ getD (m .kept) p 0
   pub table : (p : ℕ) → ((i : ℕ) → i < n → isKept m i ≡ false → p ≡ 2 * behind m i → ⊥) → getD (m′ .table) p 0 ≡ getD (m .table) p 0
   pub long : SameSize m′ m
+
+-- every word but the control word is the same
+pub record SameRows (a b : Memory) : Type 0 where
+  pub long : length (a .kept) ≡ length (b .kept)
+  pub kept : (p : ℕ) → (p ≡ 0 → ⊥) → getD (a .kept) p 0 ≡ getD (b .kept) p 0
+  pub table : a .table ≡ b .table

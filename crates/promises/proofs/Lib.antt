@@ -23,3 +23,4 @@ pub mod Recorder
 pub mod Marks
 pub mod Ranges
 pub mod Written
+pub mod Batches

@@ -1,7 +1,7 @@
 -- Document 01, When the unit says no: each call gives the first number of its row that applies, and 0 where none does.
 -- Assumes nothing.
 use mathlib.Core.Path.{_≡_, refl, sym, ap, _∙_}
-use mathlib.Core.Bool.{Bool, true, false, not}
+use mathlib.Core.Bool.{Bool, true, false, not, _&&_}
 use mathlib.Core.List.{List, [], _∷_, _++_}
 use Prim.Native.Nat.{ℕ, _*_, _^_}
 use lib.Dec.{eqb, leb, ltb}
@@ -36,7 +36,7 @@ use Rattle.control_calls.specs.Calls as control-calls
 use Rattle.transactions.specs.declared.Transaction.{Transaction}
 use Rattle.transactions.specs.Call as transactions
 use Rattle.due.specs.declared.Raising.{Raising}
-use Rattle.memory.specs.Memory.{Memory}
+use Rattle.memory.specs.Memory.{Memory, rowsIn}
 use Rattle.regions.specs.declared.Region.{Region}
 use Rattle.regions.specs.declared.Refusal.{Refusal as regions·Refusal}
 use Rattle.regions.specs.declared.Refusal.the-variants.{BadLength as regions·BadLength, BadRow as regions·BadRow}
@@ -57,7 +57,9 @@ use Rattle.batch_writes.specs.declared.BatchAnswer.{BatchAnswer}
 use Rattle.batch_writes.specs.declared.BatchAnswer.the-variants.{Rung as Batched}
 use Rattle.batch_writes.specs.Batch as batch
 use Rattle.batch_writes.specs.Batch.{Lent}
-use Rattle.promises.specs.Numbers.{runNumber, fillNumber, tableFillNumber, doorbellNumber, acknowledgeNumber, clearNumber, enableNumber, translateNumber, Rule, first, some, ofImage, ofTable, ofRun, ofDoorbell, ofAcknowledge, ofClear, ofFill, ofTableFill, ofTransaction, runEnds, fillEnds, writeNumber, ofWrite, batchNumber, firstLacks, firstUnfit, ofBatch}
+use Rattle.batches.specs.declared.Batch.the-variants.{Original, Proposed}
+use Rattle.batches.specs.Batches as batches
+use Rattle.promises.specs.Numbers.{runNumber, checkNumber, fillNumber, tableFillNumber, doorbellNumber, acknowledgeNumber, clearNumber, enableNumber, translateNumber, Rule, first, some, ofImage, ofTable, ofRun, ofCheck, ofDoorbell, ofAcknowledge, ofClear, ofFill, ofTableFill, ofTransaction, runEnds, fillEnds, writeNumber, ofWrite, batchNumber, firstLacks, firstUnfit, ofBatch}
 
 -- 1, 2 and 3, and then the numbers of the call's own
 module _ {A : Type 0} (m : List ℕ) (number : A → ℕ) (refuses : Refusal → A) (goes-on : ℕ → A) (rules : List Rule)
@@ -116,6 +118,26 @@ run-number f queue k m =
     image-first (m .kept) (ofAnswer runNumber) _ _ (ofTable (m .table) ++ ofRun queue m) (λ why. refl)
     (λ n e. table-first (m .table) (ofAnswer runNumber) _ _ (ofRun queue m) (λ why. refl)
     (λ r g. through (ofAnswer runNumber) (not (runs.queueGood queue m)) _ _))
+
+-- document 02, T-12; what is judged is no refusal
+module _ (f : Features) (original proposed : List ℕ) (m : Memory) where
+  judged-none : checkNumber (batches.judged f original proposed m) ≡ 0
+  unfolding batches.judged
+  judged-none = by-found (batches.unfit f original) (batches.unfit f proposed) (lowest (batches.differs (batches.left f original m) (batches.left f proposed m)) (rowsIn m) 0)
+    where
+      by-found : (x y z : Found) → checkNumber (batches.unfitOr Original x (batches.unfitOr Proposed y (batches.byRow z))) ≡ 0
+      by-found (At k) y z = refl
+      by-found Nothing (At k) z = refl
+      by-found Nothing Nothing (At i) = refl
+      by-found Nothing Nothing Nothing = refl
+
+  pub check-number : checkNumber (batches.check f original proposed m) ≡ first (ofImage (m .kept) ++ ofTable (m .table) ++ ofCheck original proposed)
+  unfolding batches.check
+  check-number =
+      image-first (m .kept) checkNumber _ _ (ofTable (m .table) ++ ofCheck original proposed) (λ why. refl)
+      (λ n e. table-first (m .table) checkNumber _ _ (ofCheck original proposed) (λ why. refl)
+      (λ r g. through checkNumber (not (batches.isWhole original && batches.isWhole proposed)) _ _
+      ∙ ap (pick (not (batches.isWhole original && batches.isWhole proposed)) 23) judged-none))
 
 pub table-fill-number : (m t : List ℕ) (row : ℕ) (words : Region) (k : ℕ)
     → tableFillNumber (region-fills.fill m t row words k .answer) ≡ first (ofImage m ++ ofTable t ++ ofTableFill t row words)

@@ -4,6 +4,7 @@ pub mod Doubles
 pub mod Sums
 pub mod Tells
 pub mod Found
+pub mod Legal
 pub mod Swept
 pub mod Ends
 pub mod Order
@@ -13,5 +14,5 @@ pub mod Numbers
 pub mod Pending
 pub mod Recorder
 pub mod Ranges
-pub mod Legal
 pub mod Written
+pub mod Batches

@@ -1,8 +1,8 @@
 -- Document 01, When the unit says no: the table, with each call's numbers in their order.
 -- Assumes nothing.
-use mathlib.Core.Bool.{Bool, true, false, not}
+use mathlib.Core.Bool.{Bool, true, false, not, _&&_}
 use mathlib.Core.List.{List, [], _∷_}
-use Prim.Native.Nat.{ℕ, _*_, _^_}
+use Prim.Native.Nat.{ℕ, _*_, _%_, _^_}
 use lib.Dec.{eqb, leb, ltb}
 use lib.ListN.{length}
 use Rattle.words.specs.Choice.{pick}
@@ -56,6 +56,9 @@ use Rattle.batch_writes.specs.declared.BatchAnswer.{BatchAnswer}
 use Rattle.batch_writes.specs.declared.BatchAnswer.the-variants.{Refused as NotBatched, Rung as Batched}
 use Rattle.batch_writes.specs.Batch as batch
 use Rattle.batch_writes.specs.Batch.{Lent}
+use Rattle.batches.specs.declared.CheckAnswer.{CheckAnswer}
+use Rattle.batches.specs.declared.CheckAnswer.the-variants.{Refused as NotChecked, Same, Unfit as NotFit, Differ}
+use Rattle.batches.specs.Batches as batches
 
 -- the number of an answer: its refusal's, or 0 where the call was carried out
 abbrev pub runNumber : RunAnswer → ℕ
@@ -69,6 +72,12 @@ fillNumber (DidFill filling) = 0
 abbrev pub tableFillNumber : region·FillAnswer → ℕ
 tableFillNumber (NotTableFilled why) = region-fills.number why
 tableFillNumber (DidTableFill filling) = 0
+
+abbrev pub checkNumber : CheckAnswer → ℕ
+checkNumber (NotChecked why) = batches.number why
+checkNumber Same = 0
+checkNumber (NotFit batch command) = 0
+checkNumber (Differ row) = 0
 
 abbrev pub doorbellNumber : DoorbellAnswer → ℕ
 doorbellNumber (NotRung why) = control-calls.doorbellNumber why
@@ -121,6 +130,11 @@ ofTable t =
 -- then each call's own
 abbrev pub ofRun : List ℕ → Memory → List Rule
 ofRun queue m = record { number = 4; applies = not (runs.queueGood queue m) } ∷ []
+
+-- document 02, T-12: 23 if the length of either batch is no multiple of 16
+abbrev pub ofCheck : List ℕ → List ℕ → List Rule
+ofCheck original proposed =
+    record { number = 23; applies = not (eqb (length original % 16) 0 && eqb (length proposed % 16) 0) } ∷ []
 
 abbrev pub ofDoorbell : List ℕ → ℕ → List Rule
 ofDoorbell m wr = record { number = 5; applies = not (mayRing (image.controlOf m) wr) } ∷ []
