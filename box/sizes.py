@@ -107,8 +107,8 @@ class Unit:
         return found
 
     def vectors(self):
-        """Whether any instruction names a vector register. A branch's target on Arm can look like one."""
-        pattern = r'%[xyz]mm' if self.machine == 'x86_64' else r'(?!b|cb|tb)\S+\s(.*[\s{])?[qvdsh]\d+\b'
+        """Whether any instruction names a vector register. On Arm the target of a branch or of ADR can look like one."""
+        pattern = r'%[xyz]mm' if self.machine == 'x86_64' else r'(?!b|cb|tb|adr)\S+\s(.*[\s{])?[qvdsh]\d+\b'
         return any(re.match('.*' + pattern if self.machine == 'x86_64' else pattern, code)
                    for lines in self.code.values() for code, _ in lines)
 
