@@ -1,15 +1,17 @@
-//! Measures the compiled unit beside the second implementation of `compare/`.
+//! Measures the compiled unit beside the second implementation of `compare/`, and beside a
+//! straightforward version written for this (`plain/`).
 //!
-//! Both sides are given the same inputs (`cases/`) through functions of one
-//! shape (`sides.rs`). Before anything is timed, each input is tried on both, and
+//! All are given the same inputs (`cases/`) through functions of one
+//! shape (`sides.rs`). Before anything is timed, each input is tried on all, and
 //! a difference ends the program. `bench/run` builds this and uses it so:
 //!
 //!     bench cases                what the cases are, a line each
 //!     bench time                 figures, a line for each case and stack place
+//!     bench plain                the best of each case, unit and plain version, and their ratio
 //!     bench once CASE SIDE ROWS  the case's calls, once, for counting instructions
 //!     bench off CASE SIDE ROWS   the same with the queue off: the check alone
 //!
-//! CASE is a letter, SIDE `unit` or `model`, and of the table the first ROWS rows
+//! CASE is a letter, SIDE `unit`, `model` or `plain`, and of the table the first ROWS rows
 //! are left. Lines have fields between tabs, the first line their names.
 
 #[allow(dead_code)]
@@ -31,6 +33,8 @@ mod measure;
 #[path = "../compare/model/mod.rs"]
 mod model;
 mod modelled;
+mod plain;
+mod plained;
 #[allow(dead_code)]
 #[path = "../compare/generate/random.rs"]
 mod random;
@@ -45,7 +49,8 @@ mod verify;
 mod world;
 
 use cases::{Case, Lent, ENABLED};
-use sides::{Side, MODEL, UNIT};
+use sides::{Side, MODEL, PLAIN, UNIT};
+use measure::Figure;
 use std::process::ExitCode;
 use verify::Totals;
 
@@ -69,11 +74,23 @@ fn describe(cases: &[Case]) -> Result<(), String> {
 fn time(cases: &[Case]) -> Result<(), String> {
     let seen = verified(cases)?;
     println!("case\tplace\tunit\tmodel");
-    for (case, figures) in cases.iter().zip(measure::all(cases, &seen)) {
+    for (case, figures) in cases.iter().zip(measure::all(&MODEL, cases, &seen)) {
         for figure in figures {
             let (letter, place) = (case.letter, figure.place);
-            println!("{letter}\t{place}\t{:.3}\t{:.3}", figure.unit, figure.model);
+            println!("{letter}\t{place}\t{:.3}\t{:.3}", figure.unit, figure.other);
         }
+    }
+    Ok(())
+}
+
+fn plain(cases: &[Case]) -> Result<(), String> {
+    let seen = verified(cases)?;
+    println!("case\tunit\tplain\tratio");
+    for (case, figures) in cases.iter().zip(measure::all(&PLAIN, cases, &seen)) {
+        let best = |of: fn(&Figure) -> f64| figures.iter().map(of).fold(f64::INFINITY, f64::min);
+        let (unit, plain) = (best(|figure| figure.unit), best(|figure| figure.other));
+        let (letter, ratio) = (case.letter, unit / plain);
+        println!("{letter}\t{unit:.3}\t{plain:.3}\t{ratio:.2}");
     }
     Ok(())
 }
@@ -93,6 +110,7 @@ fn once(cases: &[Case], [letter, side, rows]: [&str; 3], clear: u64) -> Result<(
     let side: &Side = match side {
         "unit" => &UNIT,
         "model" => &MODEL,
+        "plain" => &PLAIN,
         _ => return Err("no such side".into()),
     };
     let lent = cut(case, rows, clear).ok_or("no such number of rows")?;
@@ -110,9 +128,10 @@ fn main() -> ExitCode {
     let done = match arguments[..] {
         ["cases"] => describe(&cases),
         ["time"] => time(&cases),
+        ["plain"] => plain(&cases),
         ["once", letter, side, rows] => once(&cases, [letter, side, rows], 0),
         ["off", letter, side, rows] => once(&cases, [letter, side, rows], ENABLED),
-        _ => Err("usage: bench cases | time | once CASE SIDE ROWS | off CASE SIDE ROWS".into()),
+        _ => Err("usage: bench cases | time | plain | once CASE SIDE ROWS | off CASE SIDE ROWS".into()),
     };
     match done {
         Ok(()) => ExitCode::SUCCESS,

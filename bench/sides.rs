@@ -1,9 +1,11 @@
-//! The unit and the model behind functions of one shape, that of the C interface.
+//! The unit, the model and the plain version behind functions of one shape, that of the
+//! C interface.
 
 use crate::call::Reply;
 use crate::cases::{Case, Lent, Work};
 use crate::interface::{tahvenno_check_batch, tahvenno_fill, tahvenno_run, tahvenno_translate};
 use crate::modelled::{model_check_batch, model_fill, model_run, model_translate};
+use crate::plained::{plain_check_batch, plain_fill, plain_run, plain_translate};
 use std::hint::black_box;
 
 pub type Run = unsafe extern "C" fn(
@@ -57,9 +59,16 @@ pub const MODEL: Side = Side {
     translate: model_translate,
 };
 
+pub const PLAIN: Side = Side {
+    run: plain_run,
+    check: plain_check_batch,
+    fill: plain_fill,
+    translate: plain_translate,
+};
+
 impl Side {
     /// One call of a case. Not inlined, and through a hidden pointer, so that the
-    /// compiler can't fit the model's code, which it sees, to one input.
+    /// compiler can't fit code that it sees, all but the unit's, to one input.
     #[inline(never)]
     pub fn call(&self, case: &Case, call: usize, lent: &mut Lent) -> Reply {
         let mut answer = [u64::MAX; 8];

@@ -1,7 +1,8 @@
-//! Both sides once on each input, before anything is timed.
+//! Every side once on each input, before anything is timed.
 
-use crate::cases::{Case, Per, Work};
-use crate::sides::{MODEL, UNIT};
+use crate::call::Reply;
+use crate::cases::{Case, Lent, Per, Work};
+use crate::sides::{Side, MODEL, PLAIN, UNIT};
 
 /// What the calls of a case did together.
 #[derive(Default)]
@@ -12,25 +13,33 @@ pub struct Totals {
     pub stored: bool,
 }
 
-/// The totals, if both sides answered the same, left the same memory, and did
+/// What a side answers to a call, and every word that it leaves.
+fn made(side: &Side, case: &Case, call: usize) -> (Reply, Lent) {
+    let mut lent = case.lent.clone();
+    let reply = side.call(case, call, &mut lent);
+    (reply, lent)
+}
+
+/// The totals, if all sides answered the same, left the same memory, and did
 /// what the case is there to measure.
 pub fn same(case: &Case) -> Result<Totals, String> {
     let mut totals = Totals::default();
     let checks = matches!(case.work, Work::Check { .. });
     for call in 0..case.calls() {
-        let (mut ours, mut theirs) = (case.lent.clone(), case.lent.clone());
-        let unit = UNIT.call(case, call, &mut ours);
-        let model = MODEL.call(case, call, &mut theirs);
-        if unit != model || ours != theirs {
-            return Err(format!(
-                "call {call} differs: unit {unit:x?}, model {model:x?}"
-            ));
+        let (unit, left) = made(&UNIT, case, call);
+        for (name, side) in [("model", &MODEL), ("plain", &PLAIN)] {
+            let (other, theirs) = made(side, case, call);
+            if unit != other || left != theirs {
+                return Err(format!(
+                    "call {call} differs: unit {unit:x?}, {name} {other:x?}"
+                ));
+            }
         }
         let answer = unit.answer;
         if unit.number != 0 || answer[0] != case.end {
             return Err(format!("call {call} ends otherwise: {unit:x?}"));
         }
-        totals.stored |= ours != case.lent;
+        totals.stored |= left != case.lent;
         if case.per == Per::Command && !checks {
             totals.consumed += answer[1];
             totals.removed += answer[3];
