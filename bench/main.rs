@@ -49,10 +49,12 @@ mod verify;
 mod world;
 
 use cases::{Case, Lent, ENABLED};
-use sides::{Side, MODEL, PLAIN, UNIT};
 use measure::Figure;
+use sides::{Side, MODEL, PLAIN, UNIT};
 use std::process::ExitCode;
 use verify::Totals;
+
+const USAGE: &str = "usage: bench cases | time | plain | once CASE SIDE ROWS | off CASE SIDE ROWS";
 
 fn verified(cases: &[Case]) -> Result<Vec<Totals>, String> {
     let named =
@@ -131,7 +133,7 @@ fn main() -> ExitCode {
         ["plain"] => plain(&cases),
         ["once", letter, side, rows] => once(&cases, [letter, side, rows], 0),
         ["off", letter, side, rows] => once(&cases, [letter, side, rows], ENABLED),
-        _ => Err("usage: bench cases | time | plain | once CASE SIDE ROWS | off CASE SIDE ROWS".into()),
+        _ => Err(USAGE.into()),
     };
     match done {
         Ok(()) => ExitCode::SUCCESS,
