@@ -76,6 +76,8 @@ impl Pages {
 }
 
 impl RowScope {
+    /// Asked of every row by every command, so that a call for each would be the most of it.
+    #[inline]
     pub fn holds(&self, row: &Row) -> bool {
         let guest1 = row.kind == Kind::Stage1 && row.mark == Mark::Guest;
         let stage2 = row.kind == Kind::Stage2;
