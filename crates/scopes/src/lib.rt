@@ -130,7 +130,7 @@ fn granule_of(target: Target) -> u64
     }
 }
 
-fn first_of(target: Target) -> u64
+pub fn first_of(target: Target) -> u64
     ensures { λ r. ⌜ r ≡ firstOf target ⌝ }
 {
     let granule = words::power(granule_of(target));
@@ -138,7 +138,7 @@ fn first_of(target: Target) -> u64
 }
 
 // At most 2^5 * 2^31 * 2^16 bytes. Where they end need not fit a word, so it is not formed.
-fn length_of(target: Target) -> u64
+pub fn length_of(target: Target) -> u64
     ensures { λ r. ⌜ (r ≡ lengthOf target) × (0 < r) ⌝ }
 {
     if words::part(target.tg, 1, 0) == 0 {
@@ -175,7 +175,7 @@ fn is_global(row: Row) -> bool
 }
 
 // How many bits of a stream a Range leaves open: one more than its number, which has five bits.
-fn open_bits(range: u64) -> u64
+pub fn open_bits(range: u64) -> u64
     ensures { λ r. ⌜ (r ≡ openBits range) × (r < 64) ⌝ }
 {
     words::part(range, 4, 0) + 1
