@@ -1,6 +1,1 @@
-mod Fields
-mod Near
-mod Passing
-mod Words
-mod Cases
-pub mod LetThrough
+mod Groups

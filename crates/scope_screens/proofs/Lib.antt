@@ -1,0 +1,6 @@
+mod Fields
+mod Near
+mod Passing
+mod Words
+mod Cases
+pub mod LetThrough
