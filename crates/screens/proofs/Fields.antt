@@ -5,9 +5,8 @@ use mathlib.Core.List.{List, [], _∷_}
 use Prim.Native.Nat.{ℕ, _+_, _-_, _*_, _/_, _%_, _^_}
 use native.Mathlib.Nat.{div-one, mul-one, mod-mod, zero-mul, add-mul, mul-assoc, mul-comm, add-comm}
 use native.Mathlib.Omega.{arith}
-use lib.Bits.{bitAnd, and-shr, and-mod, and-mask, and-zero-r, xor-self}
+use lib.Bits.{bitAnd, and-shr, and-mod, and-mask, and-zero-r}
 use lib.Pow.{split, shl-shr, shr-shr, pow-add, high, low, ones-lt, pow-pos}
-use Rattle.screens.specs.Screens.{differs}
 
 -- a field, from where the one below it ends: so many bits between, and so many of its own
 pub record Field : Type 0 where
@@ -77,6 +76,6 @@ leaves (f ∷ fs) p w =
 pub under : (fs : List Field) (mask w : ℕ) → maskOf fs ≡ mask → bitAnd w mask ≡ placed 0 fs w
 under fs mask w m = ap₂ bitAnd (sym (div-one w)) (sym m) ∙ sym (mul-one (bitAnd (w / 1) (maskOf fs))) ∙ leaves fs 0 w
 
--- so a word whose fields have their numbers differs in none
-pub marked : (fs : List Field) (mask value w : ℕ) → maskOf fs ≡ mask → placed 0 fs w ≡ value → differs mask value w ≡ 0
-marked fs mask value w m v = rw (under fs mask w m ∙ v) (xor-self value)
+-- so a word whose fields have their numbers has the value under the mask
+pub marked-by : (fs : List Field) (mask value w : ℕ) → maskOf fs ≡ mask → placed 0 fs w ≡ value → bitAnd w mask ≡ value
+marked-by fs mask value w m v = under fs mask w m ∙ v
