@@ -8,9 +8,9 @@ use Rattle.commands.specs.declared.Target.{Target}
 use Rattle.commands.specs.declared.Command.{Command}
 use Rattle.commands.specs.declared.Command.the-variants.{CfgiSte, CfgiSteRange, CfgiCd, CfgiCdAll, TlbiNhAll, TlbiNhAsid, TlbiNhVa, TlbiNhVaa, TlbiEl2Asid, TlbiEl2Va, TlbiEl2Vaa, TlbiS12Vmall, TlbiS2Ipa}
 use Rattle.scopes.specs.Scopes.{openBits}
 use Rattle.screens.specs.declared.Screen.{Screen}
-use Rattle.screens.specs.declared.Screen.the-variants.{Marked, Context}
-use Rattle.screens.specs.Screens.{idAt16, regimeAt, aimed, ofBlock, screenOf}
+use Rattle.screens.specs.declared.Screen.the-variants.{Marked}
+use Rattle.scope_screens.specs.ScopeScreens.{idAt16, regimeAt, aimed, ofBlock, ofContext, screenOf}
 
 module _ (f : Features) (c : Command) where
   pub of-03 : (s : ℕ) (l : Bool) (x : Screen) → c ≡ CfgiSte s l → x ≡ ofBlock s 0 → x ≡ screenOf f c
@@ -21,13 +21,13 @@ module _ (f : Features) (c : Command) where
   unfolding screenOf
   of-04 s r n x e h g = rw (e, ← h) g
 
-  pub of-05 : (u s : ℕ) (l : Bool) → c ≡ CfgiCd u s l → Context s ≡ screenOf f c
+  pub of-05 : (u s : ℕ) (l : Bool) (x : Screen) → c ≡ CfgiCd u s l → x ≡ ofContext s → x ≡ screenOf f c
   unfolding screenOf
-  of-05 u s l e = rw e
+  of-05 u s l x e g = rw e g
 
-  pub of-06 : (s : ℕ) → c ≡ CfgiCdAll s → Context s ≡ screenOf f c
+  pub of-06 : (s : ℕ) (x : Screen) → c ≡ CfgiCdAll s → x ≡ ofContext s → x ≡ screenOf f c
   unfolding screenOf
-  of-06 s e = rw e
+  of-06 s x e g = rw e g
 
   pub of-10 : (v n : ℕ) → c ≡ TlbiNhAll v → n ≡ idAt16 v → Marked 0xffff1806 (4 + n) ≡ screenOf f c
   unfolding screenOf

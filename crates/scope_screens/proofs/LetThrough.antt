@@ -25,12 +25,14 @@ use Rattle.scopes.specs.Scopes.{spared, meets, one, steBlock, openBits, ranged,
 use Rattle.scopes.specs.Ranges.{tgOf, firstOf, lengthOf, reaches}
 use Rattle.scopes.proofs.Laws.{Scoped, scoped}
 use Rattle.scopes.proofs.Ranges.{single-length}
 use Rattle.screens.specs.declared.Screen.{Screen}
-use Rattle.screens.specs.declared.Screen.the-variants.{Marked, Context, Covering, Reached}
-use Rattle.screens.specs.Screens.{ahead, differs, off, passes, idAt16, regimeAt, aimed, ofBlock, screenOf}
-use Rattle.screens.proofs.Words as word
-use Rattle.screens.proofs.Near.{ends, covers-first, begins-within}
-use Rattle.screens.proofs.Passing.{open-fits}
+use Rattle.screens.specs.declared.Screen.the-variants.{Marked, Named, Covering, Reaching}
+use Rattle.screens.specs.Screens.{marked, named, streaming, near, about, passes}
+use Rattle.screens.proofs.Distances.{covers-near, shares-about}
+use Rattle.scope_screens.specs.ScopeScreens.{idAt16, regimeAt, aimed, ofBlock, ofContext, screenOf}
+use Rattle.scope_screens.proofs.Words as word
+use Rattle.scope_screens.proofs.Near.{begins, ends, below-top, length-small}
+use Rattle.scope_screens.proofs.Near.{open-fits}
 
 -- an identifier that a row has is its own low sixteen bits
 same-id : (v x : ℕ) → x < 2 ^ 16 → x ≡ v → part 15 0 v ≡ x
@@ -40,10 +42,6 @@ same-id v x h e = ap (λ (y : ℕ). y % 2 ^ 16) (div-one v ∙ sym e) ∙ mod-eq
 -- a bit that is not 1
 not-one : (x : ℕ) → x < 2 → eqb x 1 ≡ false → x ≡ 0
 not-one x h e = omega (arith, eqb-false x 1 e)
-
-no-matter : (b : Bool) {x y : ℕ} → x ≡ 0 → (b ≡ false → y ≡ 0) → pick b x y ≡ 0
-no-matter true e g = e
-no-matter false e g = g refl
 
 both-none : {x y : ℕ} → x ≡ 0 → y ≡ 0 → bitOr x y ≡ 0
 both-none e g = rw (e, g)
@@ -84,37 +82,36 @@ module _ (row : Row) where
   own-kind e = eqb-true (rows.kind row) 2 (left (eqb (rows.kind row) 2) (not (rows.isUnmarked row)) e)
 
   -- a stage's rows of a VMID
-  stage-marked : (k v : ℕ) → stageOf row k v ≡ true → differs 0xffff1806 (k * 2 + idAt16 v) (row .w0) ≡ 0
+  stage-marked : (k v : ℕ) → stageOf row k v ≡ true → bitAnd (row .w0) 0xffff1806 ≡ k * 2 + idAt16 v
   stage-marked k v e =
       let s = staged k v e in
       word.stage-is (row .w0) k (rows.vmid row) (k * 2 + idAt16 v) (s .unmarked .kind) (s .unmarked .mark) refl (omega (arith, s .id))
 
-  either-marked : (k v : ℕ) → k / 2 ≡ 1 → stageOf row k v ≡ true → differs 0xffff1804 (4 + idAt16 v) (row .w0) ≡ 0
+  either-marked : (k v : ℕ) → k / 2 ≡ 1 → stageOf row k v ≡ true → bitAnd (row .w0) 0xffff1804 ≡ 4 + idAt16 v
   either-marked k v u e =
       let s = staged k v e in
       word.either-is (row .w0) k (rows.vmid row) (4 + idAt16 v) (s .unmarked .kind) u (s .unmarked .mark) refl (omega (arith, s .id))
 
-  any-marked : (k : ℕ) → k / 2 ≡ 1 → ofStage row k ≡ true → differs 0x1804 4 (row .w0) ≡ 0
+  any-marked : (k : ℕ) → k / 2 ≡ 1 → ofStage row k ≡ true → bitAnd (row .w0) 0x1804 ≡ 4
   any-marked k u e = let s = of-stage k e in word.any-is (row .w0) k (s .kind) u (s .mark)
 
   -- a row that a command by address reaches
-  aimed-passes : (mask value : ℕ) (t : Target) → differs mask value (row .w0) ≡ 0 → reaches t row ≡ true → passes (aimed mask value t) row ≡ true
-  unfolding off
+  marked-so : (mask value : ℕ) → bitAnd (row .w0) mask ≡ value → marked mask value row ≡ true
+  unfolding marked
+  marked-so mask value d = eq-eqb (bitAnd (row .w0) mask) value d
+
+  aimed-passes : (mask value : ℕ) (t : Target) → bitAnd (row .w0) mask ≡ value → reaches t row ≡ true → passes (aimed mask value t) row ≡ true
   aimed-passes mask value t d e = ⊎-elim single several (decided (eqb (tgOf t) 0))
     where
       single : eqb (tgOf t) 0 ≡ true → passes (aimed mask value t) row ≡ true
       single z =
           let before : row .w2 ≤ firstOf t = omega (arith, ends t row e, single-length t (eqb-true (tgOf t) 0 z)) in
-          rw z (eq-eqb (off (Covering mask value (firstOf t)) row) 0 (both-none d (covers-first t row e before)))
+          rw (z, covers-near row (firstOf t) before (begins t row e)) (marked-so mask value d)
 
       several : eqb (tgOf t) 0 ≡ false → passes (aimed mask value t) row ≡ true
       several n =
-          rw n
-          (eq-eqb (off (Reached mask value (firstOf t) (lengthOf t)) row) 0
-          (no-matter (ltb (ahead (row .w2) (firstOf t)) (lengthOf t)) d (λ far. both-none d (covers-first t row e (before far)))))
-        where
-          before : ltb (ahead (row .w2) (firstOf t)) (lengthOf t) ≡ false → row .w2 ≤ firstOf t
-          before far = ⊎-elim (λ l. omega (arith, l)) (λ g. clash (begins-within t row e g) far) (less-or-not (row .w2) (firstOf t))
+          rw (n, shares-about row (firstOf t) (lengthOf t - 1) (below-top t row e) (length-small t) (omega (arith, ends t row e)) (begins t row e))
+          (marked-so mask value d)
 
   stage-aimed : (k v : ℕ) (t : Target) → stageAt row k v t ≡ true → passes (aimed 0xffff1806 (k * 2 + idAt16 v) t) row ≡ true
   unfolding stageAt
@@ -135,42 +132,52 @@ module _ (row : Row) where
       let m : max 0 k ≡ k = omega arith in
       rw m at (eqb-true (rows.stream row / 2 ^ max 0 k) (s / 2 ^ max 0 k) e)
 
+  -- that the row's stream is one of a block's, as the test has it
+  abbrev OfBlock : ℕ → ℕ → Type 0
+  OfBlock k s = bitXor (bitAnd (row .w1) (2 ^ 32 - 2 ^ k)) (s / 2 ^ k * 2 ^ k) / 2 ^ rows.span row ≡ 0
+
   of-config : (k s j : ℕ) → rows.isEmpty row ≡ false → rows.kind row ≡ j → j / 2 ≡ 0
-      → (bitAnd (row .w0) 0xe ≡ 0) ⊎ (differs (2 ^ 32 - 2 ^ k) (s / 2 ^ k * 2 ^ k) (row .w1) ≡ 0) → passes (ofBlock s k) row ≡ true
-  unfolding off
-  of-config k s j used kind u (inl shape) = rw (used, shape)
-  of-config k s j used kind u (inr d) =
-      eq-eqb (off (ofBlock s k) row) 0
-      (rw used (no-matter (eqb (bitAnd (row .w0) 0xe) 0) refl (λ n. both-none (word.config-is (row .w0) j kind u) d)))
+      → OfBlock k s → passes (ofBlock s k) row ≡ true
+  unfolding streaming
+  of-config k s j used kind u d =
+      let x = bitXor (bitAnd (row .w1) (2 ^ 32 - 2 ^ k)) (s / 2 ^ k * 2 ^ k) / 2 ^ rows.span row in
+      rw used (eq-eqb (bitOr (bitAnd (row .w0) 4) x) 0 (both-none (word.config-is (row .w0) j kind u) d))
 
   cd-passes : (k s : ℕ) → k ≤ 32 → rows.isEmpty row ≡ false → cdOf row (record { stream = s; span = k }) ≡ true → passes (ofBlock s k) row ≡ true
   unfolding cdOf
   cd-passes k s h used e =
       let b : Block = record { stream = s; span = k } in
       let kind = eqb-true (rows.kind row) 1 (left (eqb (rows.kind row) 1) (meets (one (rows.stream row)) b) e) in
-      of-config k s 1 used kind refl (inr (word.stream-is (row .w1) k s h (met k s (right (eqb (rows.kind row) 1) (meets (one (rows.stream row)) b) e))))
+      of-config k s 1 used kind refl
+      (word.within-block (row .w1) k (rows.span row) s h (met k s (right (eqb (rows.kind row) 1) (meets (one (rows.stream row)) b) e)))
 
   ste-passes : (k s : ℕ) → k ≤ 32 → rows.isEmpty row ≡ false → steOf row (record { stream = s; span = k }) ≡ true → passes (ofBlock s k) row ≡ true
   unfolding steOf
-  ste-passes k s h used e = of-config k s 0 used kind refl (⊎-elim (λ l. inr (last l)) (λ n. inl (block n)) (decided (rows.isLast row)))
+  ste-passes k s h used e = of-config k s 0 used kind refl (⊎-elim last block (decided (rows.isLast row)))
     where
       kind : rows.kind row ≡ 0
       kind = eqb-true (rows.kind row) 0 (left (eqb (rows.kind row) 0) (meets (steBlock row) (record { stream = s; span = k })) e)
 
-      last : rows.isLast row ≡ true → differs (2 ^ 32 - 2 ^ k) (s / 2 ^ k * 2 ^ k) (row .w1) ≡ 0
-      last l = word.stream-is (row .w1) k s h (met k s (rw l at (right (eqb (rows.kind row) 0) (meets (steBlock row) (record { stream = s; span = k })) e)))
+      meet : meets (steBlock row) (record { stream = s; span = k }) ≡ true
+      meet = right (eqb (rows.kind row) 0) (meets (steBlock row) (record { stream = s; span = k })) e
 
-      block : rows.isLast row ≡ false → bitAnd (row .w0) 0xe ≡ 0
-      block n = word.block-is (row .w0) kind (not-one (get rows.lastBits (row .w0)) (part-lt rows.lastBits (row .w0)) n)
+      last : rows.isLast row ≡ true → OfBlock k s
+      last l = word.within-block (row .w1) k (rows.span row) s h (met k s (rw l at meet))
 
-  context-passes : (s : ℕ) → eqb (rows.kind row) 1 ≡ true → eqb (rows.stream row) s ≡ true → passes (Context s) row ≡ true
-  unfolding off
+      block : rows.isLast row ≡ false → OfBlock k s
+      block n =
+          let m = max (rows.span row) k in
+          let same = eqb-true (rows.stream row / 2 ^ m) (s / 2 ^ m) (rw n at meet) in
+          ⊎-elim (λ l. let k-is : max (rows.span row) k ≡ k = omega arith in word.within-block (row .w1) k (rows.span row) s h (rw k-is at same))
+          (λ g. let n-is : max (rows.span row) k ≡ rows.span row = omega arith in word.around-block (row .w1) k (rows.span row) s h g (rw n-is at same))
+          (less-or-not (rows.span row) k)
+
+  context-passes : (s : ℕ) → eqb (rows.kind row) 1 ≡ true → eqb (rows.stream row) s ≡ true → passes (ofContext s) row ≡ true
+  unfolding named
   context-passes s k e =
-      let stream = eqb-true (rows.stream row) s e in
-      let none : bitXor (rows.stream row) s ≡ 0 = rw stream (xor-self s) in
-      eq-eqb (off (Context s) row) 0 (both-none (word.kind-is (row .w0) 1 (eqb-true (rows.kind row) 1 k)) none)
+      rw (word.kind-is (row .w0) 1 (eqb-true (rows.kind row) 1 k), word.whole-stream (row .w1) s (eqb-true (rows.stream row) s e)) (eq-eqb s s refl)
 
-  cd-at-passes : (s u : ℕ) → cdAt row s u ≡ true → passes (Context s) row ≡ true
+  cd-at-passes : (s u : ℕ) → cdAt row s u ≡ true → passes (ofContext s) row ≡ true
   unfolding cdAt
   cd-at-passes s u e =
       let k = eqb (rows.kind row) 1 in
@@ -178,7 +185,7 @@ module _ (row : Row) where
       let both = left (k && m) (not (rows.isLast row) || eqb (rows.substream row) u) e in
       context-passes s (left k m both) (right k m both)
 
-  cd-one-passes : (s : ℕ) → cdOf row (one s) ≡ true → passes (Context s) row ≡ true
+  cd-one-passes : (s : ℕ) → cdOf row (one s) ≡ true → passes (ofContext s) row ≡ true
   unfolding cdOf
   cd-one-passes s e =
       let same = met 0 s (right (eqb (rows.kind row) 1) (meets (one (rows.stream row)) (one s)) e) in
@@ -187,9 +194,8 @@ module _ (row : Row) where
 
 -- what a command removes passes its screen
 module _ (f : Features) (row : Row) where
-  marked-passes : (mask value : ℕ) → differs mask value (row .w0) ≡ 0 → passes (Marked mask value) row ≡ true
-  unfolding off
-  marked-passes mask value d = eq-eqb (off (Marked mask value) row) 0 d
+  marked-passes : (mask value : ℕ) → bitAnd (row .w0) mask ≡ value → passes (Marked mask value) row ≡ true
+  marked-passes mask value d = marked-so row mask value d
 
   screened : (c : Command) → Scoped f c row → passes (screenOf f c) row ≡ true
   unfolding removes inRegime screenOf

@@ -1,6 +1,4 @@
-mod Fields
 mod Near
-mod Passing
 mod Words
 mod Cases
 pub mod LetThrough

@@ -1,57 +1,42 @@
--- Distances around 2 ^ 64: a row that a command reaches is near enough.
+-- What a command by address reaches, in numbers; and how many bits a Range leaves open.
 -- Assumes nothing.
-use mathlib.Core.Path.{_≡_, refl, sym, ap, _∙_}
+use mathlib.Core.Path.{_≡_}
 use mathlib.Core.Bool.{Bool, true, false}
-use mathlib.Core.Logic.{_⊎_, inl, inr, ⊎-elim}
-use Prim.Native.Nat.{ℕ, _+_, _-_, _/_, _%_, _^_, _≤_, _<_}
-use native.Mathlib.Nat.{mod-eq-of-lt, div-eq-of-lt}
+use mathlib.Core.Logic.{⊎-elim}
+use Prim.Native.Nat.{ℕ, _+_, _-_, _^_, _≤_, _<_}
 use native.Mathlib.Omega.{arith}
-use lib.Pow.{pow-lt}
-use lib.Dec.{ltb}
-use borrow.Author.Tests.{lt-ltb}
+use lib.Dec.{eqb}
+use Rattle.words.specs.Ranges.{bits}
 use Rattle.words.proofs.Spans.{first-ends-later, second-ends-later}
 use Rattle.words.proofs.Parts.{part-lt}
-use Rattle.words.proofs.Truth.{less-or-not}
+use Rattle.words.proofs.Truth.{decided}
 use Rattle.rows.specs.declared.Row.{Row}
 use Rattle.rows.specs.Rows as rows
 use Rattle.commands.specs.declared.Target.{Target}
+use Rattle.scopes.specs.Scopes.{openBits}
 use Rattle.scopes.specs.Ranges.{tgOf, firstOf, lengthOf, endOf, reaches}
-use Rattle.scopes.proofs.Ranges.{length-pos, end-fits}
-use Rattle.screens.specs.Screens.{ahead}
-
--- what the code computes
-pub wraps : (a b s : ℕ) → a < 2 ^ 64 → b < 2 ^ 64 → s < 2 ^ 64 → (s + b) % 2 ^ 64 ≡ a → s ≡ ahead a b
-wraps a b s f g h e = omega arith
-
-pub in-front : (a b : ℕ) → b ≤ a → a - b < 2 ^ 64 → ahead a b ≡ a - b
-in-front a b h l = let more : a + 2 ^ 64 - b ≡ (a - b) + 2 ^ 64 = omega arith in omega (arith, more)
+use Rattle.scopes.proofs.Ranges.{first-fits, length-pos, length-bound, end-fits}
 
 module _ (t : Target) (row : Row) (e : reaches t row ≡ true) where
-  abbrev first : ℕ
-  first = firstOf t
-
-  abbrev size : ℕ
-  size = 2 ^ rows.span row
-
-  short : size < 2 ^ 64
-  short = pow-lt (part-lt rows.spanBits (row .w0))
-
-  begins : first < row .w2 + size
+  pub begins : firstOf t < row .w2 + 2 ^ rows.span row
   unfolding reaches
-  begins = second-ends-later first (endOf t - first) (row .w2) size e
+  begins = second-ends-later (firstOf t) (endOf t - firstOf t) (row .w2) (2 ^ rows.span row) e
 
-  pub ends : row .w2 < first + lengthOf t
-  unfolding reaches endOf
-  ends = omega (arith, first-ends-later first (endOf t - first) (row .w2) size e, length-pos t)
-
-  -- a row that begins before the first byte covers it
-  pub covers-first : row .w2 ≤ first → ahead first (row .w2) / size ≡ 0
-  covers-first h =
-      let less : first - row .w2 < size = omega (arith, begins) in
-      rw (in-front first (row .w2) h (omega (arith, less, short))) (div-eq-of-lt less)
-
-  pub begins-within : first ≤ row .w2 → ltb (ahead (row .w2) first) (lengthOf t) ≡ true
+  later : row .w2 < firstOf t + (endOf t - firstOf t)
   unfolding reaches
-  begins-within h =
-      let less : row .w2 - first < lengthOf t = omega (arith, ends) in
-      lt-ltb (ahead (row .w2) first) (lengthOf t) (rw (in-front (row .w2) first h (omega (arith, first-ends-later first (endOf t - first) (row .w2) size e, end-fits t))) less)
+  later = first-ends-later (firstOf t) (endOf t - firstOf t) (row .w2) (2 ^ rows.span row) e
+
+  pub ends : row .w2 < firstOf t + lengthOf t
+  unfolding endOf
+  ends = omega (arith, later, length-pos t)
+
+  pub below-top : row .w2 < 2 ^ 64
+  below-top = omega (arith, later, end-fits t, first-fits t)
+
+pub length-small : (t : Target) → lengthOf t - 1 < 2 ^ 63
+unfolding lengthOf
+length-small t = ⊎-elim (λ z. rw z (omega arith)) (λ n. rw n (omega (arith, length-bound t))) (decided (eqb (tgOf t) 0))
+
+-- at most all bits of a stream
+pub open-fits : (r range : ℕ) → r ≡ openBits range → r ≤ 32
+open-fits r range e = omega (arith, e, part-lt (bits 4 0) range)

@@ -1,42 +1,51 @@
--- Word 0 and word 1 of a row under the masks of screens, by the row's parts.
+-- Word 0 and word 1 of a row under the masks of the commands' screens, by the row's parts.
 -- Assumes nothing.
-use mathlib.Core.Path.{_≡_, refl, sym, ap, _∙_}
+use mathlib.Core.Path.{_≡_, refl, sym, ap, ap₂, _∙_}
 use mathlib.Core.List.{[], _∷_}
 use Prim.Native.Nat.{ℕ, _+_, _-_, _*_, _/_, _%_, _^_, _≤_, _<_}
-use native.Mathlib.Nat.{div-one}
+use native.Mathlib.Nat.{div-one, zero-div}
 use native.Mathlib.Omega.{arith}
-use lib.Bits.{bitAnd}
-use lib.Pow.{field, high-ones}
+use lib.Bits.{bitAnd, bitXor, and-high, and-mask, xor-self, xor-shr}
+use lib.Pow.{field, shl-shr, shr-shr}
 use Rattle.words.specs.Parts.{part}
 use Rattle.words.specs.Ranges.{get}
 use Rattle.rows.specs.Rows as rows
-use Rattle.screens.specs.Screens.{differs}
-use Rattle.screens.proofs.Fields.{gap, under, marked}
+use Rattle.screens.proofs.Fields.{gap, under, marked-by}
+
+-- low bits that are taken away before are not missed
+rounded : (k n a : ℕ) → k ≤ n → a / 2 ^ k * 2 ^ k / 2 ^ n ≡ a / 2 ^ n
+rounded k n a h =
+    let sum : k + (n - k) ≡ n = omega arith in
+    ap (λ (x : ℕ). a / 2 ^ k * 2 ^ k / 2 ^ x) (sym sum)
+    ∙ sym (shr-shr (a / 2 ^ k * 2 ^ k) k (n - k))
+    ∙ ap (λ (x : ℕ). x / 2 ^ (n - k)) (shl-shr (a / 2 ^ k) k)
+    ∙ shr-shr a k (n - k)
+    ∙ ap (λ (x : ℕ). a / 2 ^ x) sum
 
 module _ (w : ℕ) where
-  pub kind-is : (k : ℕ) → get rows.kindBits w ≡ k → differs 6 (k * 2) w ≡ 0
+  pub kind-is : (k : ℕ) → get rows.kindBits w ≡ k → bitAnd w 6 ≡ k * 2
   unfolding part
-  kind-is k a = marked (gap 1 2 ∷ []) 6 (k * 2) w refl (omega (arith, a))
+  kind-is k a = marked-by (gap 1 2 ∷ []) 6 (k * 2) w refl (omega (arith, a))
 
-  pub own-is : (k m value : ℕ) → get rows.kindBits w ≡ k → get rows.markBits w ≡ m → value ≡ k * 2 + m * 2 ^ 11 → differs 0x1806 value w ≡ 0
+  pub own-is : (k m value : ℕ) → get rows.kindBits w ≡ k → get rows.markBits w ≡ m → value ≡ k * 2 + m * 2 ^ 11 → bitAnd w 0x1806 ≡ value
   unfolding part
-  own-is k m value a b v = marked (gap 1 2 ∷ gap 8 2 ∷ []) 0x1806 value w refl (omega (arith, a, b, v))
+  own-is k m value a b v = marked-by (gap 1 2 ∷ gap 8 2 ∷ []) 0x1806 value w refl (omega (arith, a, b, v))
 
   pub own-asid-is : (k m i value : ℕ) → get rows.kindBits w ≡ k → get rows.globalBits w ≡ 0 → get rows.markBits w ≡ m → get rows.asidBits w ≡ i
-      → value ≡ k * 2 + m * 2 ^ 11 + i * 2 ^ 32 → differs 0xffff00001816 value w ≡ 0
+      → value ≡ k * 2 + m * 2 ^ 11 + i * 2 ^ 32 → bitAnd w 0xffff00001816 ≡ value
   unfolding part
-  own-asid-is k m i value a g b d v = marked (gap 1 2 ∷ gap 1 1 ∷ gap 6 2 ∷ gap 19 16 ∷ []) 0xffff00001816 value w refl (omega (arith, a, g, b, d, v))
+  own-asid-is k m i value a g b d v = marked-by (gap 1 2 ∷ gap 1 1 ∷ gap 6 2 ∷ gap 19 16 ∷ []) 0xffff00001816 value w refl (omega (arith, a, g, b, d, v))
 
   pub stage-is : (k i value : ℕ) → get rows.kindBits w ≡ k → get rows.markBits w ≡ 0 → get rows.vmidBits w ≡ i
-      → value ≡ k * 2 + i * 2 ^ 16 → differs 0xffff1806 value w ≡ 0
+      → value ≡ k * 2 + i * 2 ^ 16 → bitAnd w 0xffff1806 ≡ value
   unfolding part
-  stage-is k i value a b c v = marked (gap 1 2 ∷ gap 8 2 ∷ gap 3 16 ∷ []) 0xffff1806 value w refl (omega (arith, a, b, c, v))
+  stage-is k i value a b c v = marked-by (gap 1 2 ∷ gap 8 2 ∷ gap 3 16 ∷ []) 0xffff1806 value w refl (omega (arith, a, b, c, v))
 
   pub stage-asid-is : (k i j value : ℕ) → get rows.kindBits w ≡ k → get rows.globalBits w ≡ 0 → get rows.markBits w ≡ 0 → get rows.vmidBits w ≡ i
-      → get rows.asidBits w ≡ j → value ≡ k * 2 + i * 2 ^ 16 + j * 2 ^ 32 → differs 0xffffffff1816 value w ≡ 0
+      → get rows.asidBits w ≡ j → value ≡ k * 2 + i * 2 ^ 16 + j * 2 ^ 32 → bitAnd w 0xffffffff1816 ≡ value
   unfolding part
   stage-asid-is k i j value a g b c d v =
-      marked (gap 1 2 ∷ gap 1 1 ∷ gap 6 2 ∷ gap 3 16 ∷ gap 0 16 ∷ []) 0xffffffff1816 value w refl (omega (arith, a, g, b, c, d, v))
+      marked-by (gap 1 2 ∷ gap 1 1 ∷ gap 6 2 ∷ gap 3 16 ∷ gap 0 16 ∷ []) 0xffffffff1816 value w refl (omega (arith, a, g, b, c, d, v))
 
   -- kind's upper bit alone: 0 for configurations, 1 for stages
   upper : (k : ℕ) → get rows.kindBits w ≡ k → w / 2 ^ 2 % 2 ^ 1 ≡ k / 2
@@ -44,32 +53,42 @@ module _ (w : ℕ) where
   upper k a = omega (arith, a)
 
   pub either-is : (k i value : ℕ) → get rows.kindBits w ≡ k → k / 2 ≡ 1 → get rows.markBits w ≡ 0 → get rows.vmidBits w ≡ i
-      → value ≡ 4 + i * 2 ^ 16 → differs 0xffff1804 value w ≡ 0
+      → value ≡ 4 + i * 2 ^ 16 → bitAnd w 0xffff1804 ≡ value
   unfolding part
-  either-is k i value a u b c v = marked (gap 2 1 ∷ gap 8 2 ∷ gap 3 16 ∷ []) 0xffff1804 value w refl (omega (arith, upper k a, u, b, c, v))
+  either-is k i value a u b c v = marked-by (gap 2 1 ∷ gap 8 2 ∷ gap 3 16 ∷ []) 0xffff1804 value w refl (omega (arith, upper k a, u, b, c, v))
 
-  pub any-is : (k : ℕ) → get rows.kindBits w ≡ k → k / 2 ≡ 1 → get rows.markBits w ≡ 0 → differs 0x1804 4 w ≡ 0
+  pub any-is : (k : ℕ) → get rows.kindBits w ≡ k → k / 2 ≡ 1 → get rows.markBits w ≡ 0 → bitAnd w 0x1804 ≡ 4
   unfolding part
-  any-is k a u b = marked (gap 2 1 ∷ gap 8 2 ∷ []) 0x1804 4 w refl (omega (arith, upper k a, u, b))
+  any-is k a u b = marked-by (gap 2 1 ∷ gap 8 2 ∷ []) 0x1804 4 w refl (omega (arith, upper k a, u, b))
 
   pub config-is : (k : ℕ) → get rows.kindBits w ≡ k → k / 2 ≡ 0 → bitAnd w 4 ≡ 0
   config-is k a u = under (gap 2 1 ∷ []) 4 w refl ∙ omega (arith, upper k a, u)
 
-  -- an STE row that is not last-level: kind and the bit above it are 0
-  pub block-is : get rows.kindBits w ≡ 0 → get rows.lastBits w ≡ 0 → bitAnd w 0xe ≡ 0
+  -- the stream under the mask of a block
+  under-block : (k : ℕ) → k ≤ 32 → bitAnd w (2 ^ 32 - 2 ^ k) ≡ get rows.streamBits w / 2 ^ k * 2 ^ k
   unfolding part
-  block-is a b = under (gap 1 2 ∷ gap 0 1 ∷ []) 0xe w refl ∙ omega (arith, a, b)
-
-  -- a stream of a block
-  pub stream-is : (k s : ℕ) → k ≤ 32 → get rows.streamBits w / 2 ^ k ≡ s / 2 ^ k → differs (2 ^ 32 - 2 ^ k) (s / 2 ^ k * 2 ^ k) w ≡ 0
-  unfolding part
-  stream-is k s h e =
+  under-block k h =
       let j = 32 - k in
       let sum : j + k ≡ 32 = omega arith in
-      let ones : 0 * 2 ^ j + (2 ^ j - 1) ≡ 2 ^ j - 1 = omega arith in
-      let low : 0 + k ≡ k = omega arith in
-      let same : w / 2 ^ k % 2 ^ j ≡ s / 2 ^ k =
-      sym (field w j k) ∙ ap (λ (n : ℕ). w % 2 ^ n / 2 ^ k) sum ∙ ap (λ (x : ℕ). x % 2 ^ 32 / 2 ^ k) (sym (div-one w)) ∙ e in
-      marked (gap k j ∷ []) (2 ^ 32 - 2 ^ k) (s / 2 ^ k * 2 ^ k) w
-      (ap (λ (x : ℕ). x * 2 ^ k) ones ∙ sym (ap (λ (n : ℕ). 2 ^ n - 2 ^ k) (sym sum) ∙ high-ones j k))
-      (rw (low, same) (omega arith))
+      ap (λ (n : ℕ). bitAnd w (2 ^ n - 2 ^ k)) (sym sum)
+      ∙ and-high w j k
+      ∙ ap (λ (x : ℕ). x * 2 ^ k)
+      (sym (field w j k) ∙ ap (λ (n : ℕ). w % 2 ^ n / 2 ^ k) sum ∙ ap (λ (x : ℕ). x % 2 ^ 32 / 2 ^ k) (sym (div-one w)))
+
+  -- a row of a block's streams
+  pub within-block : (k n s : ℕ) → k ≤ 32 → get rows.streamBits w / 2 ^ k ≡ s / 2 ^ k
+      → bitXor (bitAnd w (2 ^ 32 - 2 ^ k)) (s / 2 ^ k * 2 ^ k) / 2 ^ n ≡ 0
+  within-block k n s h e =
+      rw (under-block k h, e) (ap (λ (x : ℕ). x / 2 ^ n) (xor-self (s / 2 ^ k * 2 ^ k)) ∙ zero-div (2 ^ n))
+
+  -- or one whose own block is larger and has them
+  pub around-block : (k n s : ℕ) → k ≤ 32 → k ≤ n → get rows.streamBits w / 2 ^ n ≡ s / 2 ^ n
+      → bitXor (bitAnd w (2 ^ 32 - 2 ^ k)) (s / 2 ^ k * 2 ^ k) / 2 ^ n ≡ 0
+  around-block k n s h l e =
+      xor-shr (bitAnd w (2 ^ 32 - 2 ^ k)) (s / 2 ^ k * 2 ^ k) n
+      ∙ ap₂ bitXor (ap (λ (x : ℕ). x / 2 ^ n) (under-block k h) ∙ rounded k n (get rows.streamBits w) l ∙ e) (rounded k n s l)
+      ∙ xor-self (s / 2 ^ n)
+
+  pub whole-stream : (s : ℕ) → get rows.streamBits w ≡ s → bitAnd w 0xffffffff ≡ s
+  unfolding part
+  whole-stream s e = and-mask w 32 ∙ ap (λ (x : ℕ). x % 2 ^ 32) (sym (div-one w)) ∙ e

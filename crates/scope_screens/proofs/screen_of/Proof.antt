@@ -1,11 +1,11 @@
--- `screens::screen_of` meets its contract: at each command its own case answers.
+-- `scope_screens::screen_of` meets its contract: at each command its own case answers.
 -- Assumes nothing.
-use Rattle.screens.specs.Screens.{screenOf}
+use Rattle.scope_screens.specs.ScopeScreens.{screenOf}
 use borrow.Author.Needs.{needs}
-use Rattle.screens.proofs.Cases.{of-03, of-04, of-05, of-06, of-10, of-11, of-12, of-13, of-21, of-22, of-23, of-28, of-2A}
-use Rattle.screens.proofs.Passing.{open-fits}
-use Rattle.screens.proofs.screening.screen_of.Statement.{statement}
-use Rattle.screens.proofs.screening.screen_of.Tie as tie
+use Rattle.scope_screens.proofs.Cases.{of-03, of-04, of-05, of-06, of-10, of-11, of-12, of-13, of-21, of-22, of-23, of-28, of-2A}
+use Rattle.scope_screens.proofs.Near.{open-fits}
+use Rattle.scope_screens.proofs.screen_of.Statement.{statement}
+use Rattle.scope_screens.proofs.screen_of.Tie as tie
 
 open-enough : tie.Need-of-block-requires-2
 open-enough c κs = open-fits _ _ (c .open-bits .ensures .0)
@@ -62,7 +62,9 @@ screen-of-spec =
     (λ c κs. search needs)
     open-enough
     (λ c. search needs)
+    (λ c κs. search needs)
     (λ c. search needs)
+    (λ c κs. search needs)
     (λ c. search needs)
     (λ c κs. search needs)
     (λ c. search needs)

@@ -1,9 +1,9 @@
--- `screens::regime_at` meets its contract, by the setting.
+-- `scope_screens::regime_at` meets its contract, by the setting.
 -- Assumes nothing.
 use mathlib.Core.Path.{refl}
 use native.Mathlib.Omega.{arith}
-use Rattle.screens.proofs.screening.regime_at.Statement.{statement}
-use Rattle.screens.proofs.screening.regime_at.Tie as tie
+use Rattle.scope_screens.proofs.regime_at.Statement.{statement}
+use Rattle.scope_screens.proofs.regime_at.Tie as tie
 
 returns : tie.Need-returns
 returns c = rw (c .if1 .taken) (refl, omega arith)

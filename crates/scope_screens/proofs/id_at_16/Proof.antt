@@ -1,4 +1,4 @@
--- `screens::id_at_16` meets its contract.
+-- `scope_screens::id_at_16` meets its contract.
 -- Assumes nothing.
 use mathlib.Core.Path.{ap}
 use Prim.Native.Nat.{_*_, _^_}
@@ -6,8 +6,8 @@ use native.Mathlib.Omega.{arith}
 use borrow.Author.Needs.{needs}
 use Rattle.words.proofs.Parts.{part-lt}
 use Rattle.words.specs.Ranges.{bits}
-use Rattle.screens.proofs.screening.id_at_16.Statement.{statement}
-use Rattle.screens.proofs.screening.id_at_16.Tie as tie
+use Rattle.scope_screens.proofs.id_at_16.Statement.{statement}
+use Rattle.scope_screens.proofs.id_at_16.Tie as tie
 
 mul-result : tie.Need-mul-result
 mul-result c = omega (arith, c .part .ensures, part-lt (bits 15 0) (c .before .args .id))

@@ -1,11 +1,11 @@
--- `screens::of_block` meets its contract.
+-- `scope_screens::of_block` meets its contract.
 -- Assumes nothing.
 use native.Mathlib.Nat.{div-mul-le-self}
 use native.Mathlib.Omega.{arith}
 use lib.Pow.{pow-mono}
 use borrow.Author.Needs.{needs}
-use Rattle.screens.proofs.screening.of_block.Statement.{statement}
-use Rattle.screens.proofs.screening.of_block.Tie as tie
+use Rattle.scope_screens.proofs.of_block.Statement.{statement}
+use Rattle.scope_screens.proofs.of_block.Tie as tie
 
 power-requires : tie.Need-power-requires
 power-requires c κs = omega (arith, c .pre)
