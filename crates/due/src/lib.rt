@@ -28,18 +28,6 @@ pub enum Stepped {
     DidRaise(Raising),
 }
 
-// Row i is of the first table or, behind those, of the second.
-pub fn scoped_at(kept: &[u64], table: &[u64], f: Features, c: Command, i: usize) -> bool
-    requires { ⌜ Whole (both (now kept) (now table)) × (i < rowsIn (both (now kept) (now table))) ⌝ }
-    ensures { λ r. ⌜ r ≡ scopedAt f c (both (now (kept .entry)) (now (table .entry))) i ⌝ }
-{
-    let rows = kept.len() / 4;
-    if i < rows {
-        return scopes::in_scope(f, c, image::row_at(kept, i));
-    }
-    region_scopes::in_table(c, regions::row_at(table, i - rows))
-}
-
 // How many rows need be looked at: a command that is not about the second table does not pay for it.
 pub fn rows_for(c: Command, rows: usize, more: usize) -> usize
     requires { ⌜ rows + more < 2 ^ 64 ⌝ }
@@ -81,9 +69,10 @@ fn find_second(
     requires { ⌜ Among (both (now kept) (now table)) from to × (isRegional c ≡ true) ⌝ }
     ensures { λ r. ⌜ r ≡ lowest (scopedAt f c (both (now (kept .entry)) (now (table .entry)))) (to - from) from ⌝ }
 {
-    let mut i = greater(from, lesser(kept.len() / 4, to));
+    let rows = kept.len() / 4;
+    let mut i = greater(from, lesser(rows, to));
     while i < to {
-        if scoped_at(kept, table, f, c, i) {
+        if region_scopes::in_table(c, regions::row_at(table, i - rows)) {
             return Found::At(i);
         }
         i += 1;
@@ -96,14 +85,14 @@ fn find_first(kept: &[u64], table: &[u64], f: Features, c: Command, from: usize,
     requires { ⌜ Among (both (now kept) (now table)) from to × (isRegional c ≡ false) ⌝ }
     ensures { λ r. ⌜ r ≡ lowest (scopedAt f c (both (now (kept .entry)) (now (table .entry)))) (to - from) from ⌝ }
 {
-    let s = screens::screen_of(f, c);
+    let s = scope_screens::screen_of(f, c);
     let end = lesser(kept.len() / 4, to);
     let mut i = from;
     while i < end {
         let Found::At(row) = screens::next(kept, s, i, end) else {
             return Found::Nothing;
         };
-        if scoped_at(kept, table, f, c, row) {
+        if scopes::in_scope(f, c, image::row_at(kept, row)) {
             return Found::At(row);
         }
         i = row + 1;
@@ -123,20 +112,20 @@ pub fn find_in(
     requires { ⌜ Among (both (now kept) (now table)) from to ⌝ }
     ensures { λ r. ⌜ r ≡ lowest (scopedAt f c (both (now (kept .entry)) (now (table .entry)))) (to - from) from ⌝ }
 {
-    if scopes::idle(f, c) {
-        return Found::Nothing;
+    if region_scopes::is_regional(c) {
+        return find_second(kept, table, f, c, from, to);
     }
-    if !region_scopes::is_regional(c) {
-        return find_first(kept, table, f, c, from, to);
-    }
-    find_second(kept, table, f, c, from, to)
+    find_first(kept, table, f, c, from, to)
 }
 
-// The lowest row from `from` on that is in scope.
+// The lowest row from `from` on that is in scope. A command that removes nothing is told before it is handed on.
 fn find_from(kept: &[u64], table: &[u64], f: Features, c: Command, from: usize) -> Found
     requires { ⌜ Whole (both (now kept) (now table)) × (from ≤ rowsIn (both (now kept) (now table))) ⌝ }
     ensures { λ r. ⌜ r ≡ scanned f c (both (now (kept .entry)) (now (table .entry))) from ⌝ }
 {
+    if !scopes::invalidates(c) {
+        return Found::Nothing;
+    }
     find_in(kept, table, f, c, from, kept.len() / 4 + table.len() / 2)
 }
 

@@ -1,9 +1,9 @@
--- `batches::commands_of::invalidates` meets its contract.
+-- `scopes::invalidates` meets its contract.
 -- Assumes nothing.
 use borrow.Author.Needs.{needs}
-use Rattle.batches.proofs.OtherCommands.{does-invalidate}
-use Rattle.batches.proofs.commands_of.invalidates.Statement.{statement}
-use Rattle.batches.proofs.commands_of.invalidates.Tie as tie
+use Rattle.scopes.proofs.OtherCommands.{does-invalidate}
+use Rattle.scopes.proofs.invalidates.Statement.{statement}
+use Rattle.scopes.proofs.invalidates.Tie as tie
 
 returns : tie.Need-returns
 returns c = rw (c .enum-told .given .1)
