@@ -112,10 +112,10 @@ pub fn find_in(
     requires { ⌜ Among (both (now kept) (now table)) from to ⌝ }
     ensures { λ r. ⌜ r ≡ lowest (scopedAt f c (both (now (kept .entry)) (now (table .entry)))) (to - from) from ⌝ }
 {
-    if region_scopes::is_regional(c) {
-        return find_second(kept, table, f, c, from, to);
+    if !region_scopes::is_regional(c) {
+        return find_first(kept, table, f, c, from, to);
     }
-    find_first(kept, table, f, c, from, to)
+    find_second(kept, table, f, c, from, to)
 }
 
 // The lowest row from `from` on that is in scope. A command that removes nothing is told before it is handed on.
