@@ -1,7 +1,10 @@
 // Document 01, Commands and their scopes, with document 02, T-05, T-07 and T-11: which rows a legal command removes.
+mod invalidating;
+
 use commands::Command;
 use commands::Features;
 use commands::Target;
+pub use invalidating::invalidates;
 use rows::Row;
 use rows::kinds;
 use rows::marks;
@@ -10,7 +13,7 @@ ghost use Prim.Native.Nat.{_/_, _^_, _≤_, _<_};
 ghost use lib.Dec.{eqb};
 ghost use Rattle.rows.specs.Rows.{isGlobal};
 ghost use Rattle.commands.specs.declared.Command.the-variants.{CfgiSte, CfgiSteRange, CfgiCd, CfgiCdAll, TlbiNhAll, TlbiNhAsid, TlbiNhVa, TlbiNhVaa, TlbiEl2All, TlbiEl2Asid, TlbiEl2Va, TlbiEl2Vaa, TlbiS12Vmall, TlbiS2Ipa, TlbiNsnhAll};
-ghost use Rattle.scopes.specs.Scopes.{spared, meets, steBlock, openBits, steOf, cdOf, cdAt, stageOf, ownOf, isE2h, stageAt, ownAt, hasAsid, narrow, removes, invalidates, idle, regime, byRegime, inRegime, inScope};
+ghost use Rattle.scopes.specs.Scopes.{spared, meets, steBlock, openBits, steOf, cdOf, cdAt, stageOf, ownOf, isE2h, stageAt, ownAt, hasAsid, narrow, removes, idle, regime, byRegime, inRegime, inScope};
 ghost use Rattle.scopes.specs.Ranges.{addressOf, tgOf, numOf, scaleOf, granules, granuleOf, firstOf, lengthOf, reaches};
 ghost use Rattle.scopes.specs.Kinds.{isAbout};
 
@@ -316,18 +319,6 @@ fn narrow(wide: bool, id: u64) -> bool
     ensures { λ r. ⌜ r ≡ narrow wide id ⌝ }
 {
     wide | (words::part(id, 15, 8) == 0)
-}
-
-// 01, 02 and 46 are no invalidations.
-pub fn invalidates(c: Command) -> bool
-    ensures { λ r. ⌜ r ≡ invalidates c ⌝ }
-{
-    match c {
-        Command::PrefetchConfig => false,
-        Command::PrefetchAddr => false,
-        Command::Sync(_) => false,
-        _ => true,
-    }
 }
 
 // Whether no row need be looked at, by the code or since an identifier is too wide.

@@ -1,5 +1,6 @@
 // Document 02, T-13: quick tests that let a row through if it may be one that is looked for, and the next row that a test lets
 // through. The rows are looked at in loops over plain numbers; whether such a row is the one, its own rule says.
+pub mod answering;
 mod covering;
 mod marked;
 mod named;

@@ -1,9 +1,9 @@
--- `scopes::invalidates` meets its contract.
+-- `scopes::invalidating::invalidates` meets its contract.
 -- Assumes nothing.
 use borrow.Author.Needs.{needs}
 use Rattle.scopes.proofs.OtherCommands.{does-invalidate}
-use Rattle.scopes.proofs.invalidates.Statement.{statement}
-use Rattle.scopes.proofs.invalidates.Tie as tie
+use Rattle.scopes.proofs.invalidating.invalidates.Statement.{statement}
+use Rattle.scopes.proofs.invalidating.invalidates.Tie as tie
 
 returns : tie.Need-returns
 returns c = rw (c .enum-told .given .1)
