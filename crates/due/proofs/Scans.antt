@@ -9,7 +9,7 @@ use native.Mathlib.Omega.{arith}
 use Rattle.words.specs.Search.{lowest}
 use Rattle.words.specs.declared.Found.{Found}
 use Rattle.words.specs.declared.Found.the-variants.{At, Nothing}
-use Rattle.words.proofs.Search.{Lowest, Searching, Wider, over, from-zero, found, is-none, passes-over, lowest-same}
+use Rattle.words.proofs.Search.{Lowest, Searching, Wider, over-none, from-zero, found, is-none, passes-over, lowest-same}
 use Rattle.commands.specs.declared.Features.{Features}
 use Rattle.commands.specs.declared.Command.{Command}
 use Rattle.scopes.specs.Scopes.{invalidates, idle, inScope}
@@ -51,7 +51,7 @@ module _ (f : Features) (c : Command) (m : Memory) (from to : ℕ) where
     where
       here : Searching (scopedAt f c m) to (lowest (scopedAt f c m) (to - from) from) i
       here =
-          over i (record { within = h; same = refl }) (omega (arith, e)) (omega (arith, e)) (λ j b l. second-alone f c m r j (omega (arith, e, b, l)))
+          over-none i (record { within = h; same = refl }) (omega (arith, e)) (omega (arith, e)) (λ j b l. second-alone f c m r j (omega (arith, e, b, l)))
 
   -- any other has none of the second. Document 02, T-13: nor one that its screen does not let through
   pub in-first : (end j : ℕ) → end ≡ min (keptRows m) to → j < end → scopedAt f c m j ≡ inScope f c (rowAt (m .kept) j)

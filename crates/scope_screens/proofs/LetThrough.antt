@@ -28,6 +28,7 @@ use Rattle.scopes.proofs.Ranges.{single-length}
 use Rattle.screens.specs.declared.Screen.{Screen}
 use Rattle.screens.specs.declared.Screen.the-variants.{Marked, Named, Covering, Reaching}
 use Rattle.screens.specs.Screens.{marked, named, streaming, near, about, passes}
+use Rattle.screens.proofs.Answerers.{stream-under}
 use Rattle.screens.proofs.Distances.{covers-near, shares-about}
 use Rattle.scope_screens.specs.ScopeScreens.{idAt16, regimeAt, aimed, ofBlock, ofContext, screenOf}
 use Rattle.scope_screens.proofs.Words as word
@@ -175,7 +176,7 @@ module _ (row : Row) where
   context-passes : (s : ℕ) → eqb (rows.kind row) 1 ≡ true → eqb (rows.stream row) s ≡ true → passes (ofContext s) row ≡ true
   unfolding named
   context-passes s k e =
-      rw (word.kind-is (row .w0) 1 (eqb-true (rows.kind row) 1 k), word.whole-stream (row .w1) s (eqb-true (rows.stream row) s e)) (eq-eqb s s refl)
+      rw (word.kind-is (row .w0) 1 (eqb-true (rows.kind row) 1 k), stream-under (row .w1) s (eqb-true (rows.stream row) s e)) (eq-eqb s s refl)
 
   cd-at-passes : (s u : ℕ) → cdAt row s u ≡ true → passes (ofContext s) row ≡ true
   unfolding cdAt

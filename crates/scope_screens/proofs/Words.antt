@@ -5,7 +5,7 @@ use mathlib.Core.List.{[], _∷_}
 use Prim.Native.Nat.{ℕ, _+_, _-_, _*_, _/_, _%_, _^_, _≤_, _<_}
 use native.Mathlib.Nat.{div-one, zero-div}
 use native.Mathlib.Omega.{arith}
-use lib.Bits.{bitAnd, bitXor, and-high, and-mask, xor-self, xor-shr}
+use lib.Bits.{bitAnd, bitXor, and-high, xor-self, xor-shr}
 use lib.Pow.{field, shl-shr, shr-shr}
 use Rattle.words.specs.Parts.{part}
 use Rattle.words.specs.Ranges.{get}
@@ -88,7 +88,3 @@ module _ (w : ℕ) where
       xor-shr (bitAnd w (2 ^ 32 - 2 ^ k)) (s / 2 ^ k * 2 ^ k) n
       ∙ ap₂ bitXor (ap (λ (x : ℕ). x / 2 ^ n) (under-block k h) ∙ rounded k n (get rows.streamBits w) l ∙ e) (rounded k n s l)
       ∙ xor-self (s / 2 ^ n)
-
-  pub whole-stream : (s : ℕ) → get rows.streamBits w ≡ s → bitAnd w 0xffffffff ≡ s
-  unfolding part
-  whole-stream s e = and-mask w 32 ∙ ap (λ (x : ℕ). x % 2 ^ 32) (sym (div-one w)) ∙ e

@@ -27,7 +27,7 @@ unfolding part
 vmid-under w k i value a b c d v =
     marked-by (gap 1 2 ∷ gap 0 1 ∷ gap 7 2 ∷ gap 3 16 ∷ []) 0xffff180e value w refl (omega (arith, a, b, c, d, v))
 
-stream-under : (w s : ℕ) → get rows.streamBits w ≡ s → bitAnd w 0xffffffff ≡ s
+pub stream-under : (w s : ℕ) → get rows.streamBits w ≡ s → bitAnd w 0xffffffff ≡ s
 unfolding part
 stream-under w s a = marked-by (gap 0 32 ∷ []) 0xffffffff s w refl (omega (arith, a))
 

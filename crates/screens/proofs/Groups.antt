@@ -6,7 +6,7 @@ use Prim.Native.Nat.{ℕ, _+_, _-_, _≤_, _<_}
 use native.Mathlib.Omega.{arith}
 use mathlib.Core.Logic.{⊎-elim}
 use Rattle.words.specs.declared.Found.the-variants.{Nothing}
-use Rattle.words.proofs.Search.{Searching, Wider, is-none, over}
+use Rattle.words.proofs.Search.{Searching, Wider, is-none, over-none}
 use Rattle.words.proofs.Truth.{less-or-not}
 use Rattle.screens.specs.Screens.{lowestFrom, anyFour, Skips}
 
@@ -62,7 +62,7 @@ past {p} {from} {to} {i} {a} {b} s h e g f =
 
 -- behind them a search goes on
 pub resumes : {p : ℕ → Bool} {from to r : ℕ} → from ≤ to → Skips p from to r → Searching p to (lowestFrom p from to) r
-resumes {p} {from} {to} {r} h s = over r (record { within = h; same = refl }) (s .least) (s .most) (s .none)
+resumes {p} {from} {to} {r} h s = over-none r (record { within = h; same = refl }) (s .least) (s .most) (s .none)
 
 -- two tests, the first of which is the wider one
 pub narrowed : (q r : ℕ → Bool) (n : ℕ) → Wider (λ j. q j && r j) q n n

@@ -121,19 +121,19 @@ module _ {p : ℕ → Bool} {n : ℕ} {target : Found} {i : ℕ} (s : Searching 
   finds-none h = sym (s .same ∙ nowhere p n i h)
 
 -- it passes over numbers of which none passes
-over-by : {p : ℕ → Bool} {n : ℕ} {target : Found} (d i : ℕ) → Searching p n target i → i + d ≤ n → ((j : ℕ) → i ≤ j → j < i + d → p j ≡ false)
+none-by-steps : {p : ℕ → Bool} {n : ℕ} {target : Found} (d i : ℕ) → Searching p n target i → i + d ≤ n → ((j : ℕ) → i ≤ j → j < i + d → p j ≡ false)
     → Searching p n target (i + d)
-over-by {p} {n} {target} zero i s h none = let e : i ≡ i + 0 = omega arith in subst (Searching p n target) e s
-over-by {p} {n} {target} (suc d) i s h none =
+none-by-steps {p} {n} {target} zero i s h none = let e : i ≡ i + 0 = omega arith in subst (Searching p n target) e s
+none-by-steps {p} {n} {target} (suc d) i s h none =
     let e : i + 1 + d ≡ i + suc d = omega arith in
     subst (Searching p n target) e
-    (over-by d (i + 1) (passes s (omega arith) (none i (omega arith) (omega arith))) (omega arith) (λ j a b. none j (omega arith) (omega arith)))
+    (none-by-steps d (i + 1) (passes s (omega arith) (none i (omega arith) (omega arith))) (omega arith) (λ j a b. none j (omega arith) (omega arith)))
 
-pub over : {p : ℕ → Bool} {n : ℕ} {target : Found} {i : ℕ} (k : ℕ) → Searching p n target i → i ≤ k → k ≤ n → ((j : ℕ) → i ≤ j → j < k → p j ≡ false)
+pub over-none : {p : ℕ → Bool} {n : ℕ} {target : Found} {i : ℕ} (k : ℕ) → Searching p n target i → i ≤ k → k ≤ n → ((j : ℕ) → i ≤ j → j < k → p j ≡ false)
     → Searching p n target k
-over {p} {n} {target} {i} k s a b none =
+over-none {p} {n} {target} {i} k s a b none =
     let e : i + (k - i) ≡ k = omega arith in
-    subst (Searching p n target) e (over-by (k - i) i s (omega arith) (λ j c d. none j c (omega arith)))
+    subst (Searching p n target) e (none-by-steps (k - i) i s (omega arith) (λ j c d. none j c (omega arith)))
 
 pub none-left : {p : ℕ → Bool} {n : ℕ} {target : Found} {i : ℕ} → Searching p n target i → ((j : ℕ) → i ≤ j → j < n → p j ≡ false) → Nothing ≡ target
 none-left {p} {n} {i = i} s none = sym (s .same ∙ is-none p n i (s .within) none)
@@ -166,7 +166,7 @@ module _ {p q : ℕ → Bool} {m n : ℕ} {target : Found} {i : ℕ} (w : Wider 
     let-is = let-through .passes
 
     let-here : Searching p n target k
-    let-here = over k s let-from (omega (arith, let-below, w .most)) (λ j a b. w .narrows j (omega (arith, b, let-below)) (let-through .first j a b))
+    let-here = over-none k s let-from (omega (arith, let-below, w .most)) (λ j a b. w .narrows j (omega (arith, b, let-below)) (let-through .first j a b))
 
     pub let-finds : p k ≡ true → At k ≡ target
     let-finds t = finds let-here (omega (arith, let-below, w .most)) t
