@@ -1,17 +1,17 @@
-//! Measures the compiled unit beside the second implementation of `compare/`, and beside a
-//! straightforward version written for this (`plain/`).
+//! Measures the compiled unit beside a straightforward version written for this (`plain/`).
 //!
-//! All are given the same inputs (`cases/`) through functions of one
-//! shape (`sides.rs`). Before anything is timed, each input is tried on all, and
-//! a difference ends the program. `bench/run` builds this and uses it so:
+//! Both are given the same inputs (`cases/`) through functions of one shape (`sides.rs`).
+//! Before anything is timed, each input is tried on them and on the second implementation
+//! of `compare/`, and a difference ends the program. `bench/run` builds this and uses it so:
 //!
 //!     bench cases                what the cases are, a line each
 //!     bench time                 figures, a line for each case and stack place
-//!     bench plain                the best of each case, unit and plain version, and their ratio
+//!     bench grow                 the same for case h cut to fewer rows or commands
 //!     bench once CASE SIDE ROWS  the case's calls, once, for counting instructions
 //!     bench off CASE SIDE ROWS   the same with the queue off: the check alone
+//!     bench give CASE            a run's arguments as words, for `bench/x86/run`
 //!
-//! CASE is a letter, SIDE `unit`, `model` or `plain`, and of the table the first ROWS rows
+//! CASE is a letter, SIDE `unit` or `plain`, and of the table the first ROWS rows
 //! are left. Lines have fields between tabs, the first line their names.
 
 #[allow(dead_code)]
@@ -22,6 +22,8 @@ mod answers;
 mod call;
 mod cases;
 mod gap;
+mod give;
+mod grow;
 #[allow(dead_code)]
 #[path = "../compare/interface.rs"]
 mod interface;
@@ -49,12 +51,12 @@ mod verify;
 mod world;
 
 use cases::{Case, Lent, ENABLED};
-use measure::Figure;
-use sides::{Side, MODEL, PLAIN, UNIT};
+use sides::{Side, PLAIN, UNIT};
 use std::process::ExitCode;
 use verify::Totals;
 
-const USAGE: &str = "usage: bench cases | time | plain | once CASE SIDE ROWS | off CASE SIDE ROWS";
+const USAGE: &str =
+    "usage: bench cases | time | grow | once CASE SIDE ROWS | off CASE SIDE ROWS | give CASE";
 
 fn verified(cases: &[Case]) -> Result<Vec<Totals>, String> {
     let named =
@@ -75,24 +77,13 @@ fn describe(cases: &[Case]) -> Result<(), String> {
 
 fn time(cases: &[Case]) -> Result<(), String> {
     let seen = verified(cases)?;
-    println!("case\tplace\tunit\tmodel");
-    for (case, figures) in cases.iter().zip(measure::all(&MODEL, cases, &seen)) {
+    println!("case\trows\tcommands\tplace\tunit\tplain");
+    for (case, figures) in cases.iter().zip(measure::all(cases, &seen)) {
+        let (letter, rows, commands) = (case.letter, case.size.rows, case.size.commands());
         for figure in figures {
-            let (letter, place) = (case.letter, figure.place);
-            println!("{letter}\t{place}\t{:.3}\t{:.3}", figure.unit, figure.other);
+            let (place, unit, plain) = (figure.place, figure.unit, figure.plain);
+            println!("{letter}\t{rows}\t{commands}\t{place}\t{unit:.3}\t{plain:.3}");
         }
-    }
-    Ok(())
-}
-
-fn plain(cases: &[Case]) -> Result<(), String> {
-    let seen = verified(cases)?;
-    println!("case\tunit\tplain\tratio");
-    for (case, figures) in cases.iter().zip(measure::all(&PLAIN, cases, &seen)) {
-        let best = |of: fn(&Figure) -> f64| figures.iter().map(of).fold(f64::INFINITY, f64::min);
-        let (unit, plain) = (best(|figure| figure.unit), best(|figure| figure.other));
-        let (letter, ratio) = (case.letter, unit / plain);
-        println!("{letter}\t{unit:.3}\t{plain:.3}\t{ratio:.2}");
     }
     Ok(())
 }
@@ -106,12 +97,15 @@ fn cut(case: &Case, rows: &str, clear: u64) -> Option<Lent> {
     Some(Lent { kept, table })
 }
 
-fn once(cases: &[Case], [letter, side, rows]: [&str; 3], clear: u64) -> Result<(), String> {
+fn find<'a>(cases: &'a [Case], letter: &str) -> Result<&'a Case, String> {
     let case = cases.iter().find(|case| case.letter == letter);
-    let case = case.ok_or("no such case")?;
+    case.ok_or("no such case".into())
+}
+
+fn once(cases: &[Case], [letter, side, rows]: [&str; 3], clear: u64) -> Result<(), String> {
+    let case = find(cases, letter)?;
     let side: &Side = match side {
         "unit" => &UNIT,
-        "model" => &MODEL,
         "plain" => &PLAIN,
         _ => return Err("no such side".into()),
     };
@@ -130,9 +124,10 @@ fn main() -> ExitCode {
     let done = match arguments[..] {
         ["cases"] => describe(&cases),
         ["time"] => time(&cases),
-        ["plain"] => plain(&cases),
+        ["grow"] => find(&cases, "h").and_then(|case| time(&grow::cases(case))),
         ["once", letter, side, rows] => once(&cases, [letter, side, rows], 0),
         ["off", letter, side, rows] => once(&cases, [letter, side, rows], ENABLED),
+        ["give", letter] => find(&cases, letter).and_then(give::words),
         _ => Err(USAGE.into()),
     };
     match done {

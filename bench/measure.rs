@@ -1,4 +1,4 @@
-//! Times the unit and another side in turn, and keeps the best of each.
+//! Times the unit and the plain version in turn, and keeps the best of each.
 //!
 //! Others share the machine, so a single time says little: the sides take turns,
 //! the cases too, in several rounds. Where the stack stands within a cache line
@@ -6,7 +6,7 @@
 //! so each place is measured apart.
 
 use crate::cases::{Case, Lent, Per};
-use crate::sides::{Side, UNIT};
+use crate::sides::{Side, PLAIN, UNIT};
 use crate::stack::{at_place, LOOK, PLACES};
 use crate::verify::Totals;
 use std::time::{Duration, Instant};
@@ -22,7 +22,7 @@ const REPEATS: u32 = 100;
 pub struct Figure {
     pub place: usize,
     pub unit: f64,
-    pub other: f64,
+    pub plain: f64,
 }
 
 /// The best times of each call of a case, by side.
@@ -68,8 +68,8 @@ fn sample(bests: &mut [Duration], side: &Side, case: &Case, repeats: u32, memory
     }
 }
 
-/// The figures of each case beside the other side, one for each place.
-pub fn all(other: &Side, cases: &[Case], seen: &[Totals]) -> Vec<Vec<Figure>> {
+/// The figures of each case, one for each place.
+pub fn all(cases: &[Case], seen: &[Totals]) -> Vec<Vec<Figure>> {
     let new = |case: &Case| -> Vec<Bests> { (0..PLACES).map(|_| Bests::new(case)).collect() };
     let mut bests: Vec<_> = cases.iter().map(new).collect();
     for _ in 0..ROUNDS {
@@ -78,7 +78,7 @@ pub fn all(other: &Side, cases: &[Case], seen: &[Totals]) -> Vec<Vec<Figure>> {
             let repeats = if short { REPEATS } else { 1 };
             for (place, best) in bests.iter_mut().enumerate() {
                 at_place(place, &mut |real| match real {
-                    true => best.turn([&UNIT, other], case, repeats, TURN),
+                    true => best.turn([&UNIT, &PLAIN], case, repeats, TURN),
                     false => Bests::new(case).turn([&LOOK; 2], case, 1, Duration::ZERO),
                 });
             }
@@ -88,7 +88,7 @@ pub fn all(other: &Side, cases: &[Case], seen: &[Totals]) -> Vec<Vec<Figure>> {
         let figure = |(place, best): (usize, &Bests)| Figure {
             place,
             unit: best.per_part(0, case),
-            other: best.per_part(1, case),
+            plain: best.per_part(1, case),
         };
         bests.iter().enumerate().map(figure).collect()
     };

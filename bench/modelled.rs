@@ -1,6 +1,4 @@
 //! The model's run, check of a batch, fill and transaction as the C interface has them.
-//!
-//! They keep their names in the program, by which their instructions are counted.
 
 use crate::answers::{checked, filled, ran, reply, transaction, translated};
 use crate::call::{Asked, Reply};
@@ -12,7 +10,6 @@ use crate::model::run::run;
 use crate::model::transaction::translate;
 use std::slice;
 
-#[no_mangle]
 pub unsafe extern "C" fn model_run(
     kept: *mut u64,
     words: usize,
@@ -32,7 +29,6 @@ pub unsafe extern "C" fn model_run(
     tell(report.map(ran), answer)
 }
 
-#[no_mangle]
 pub unsafe extern "C" fn model_check_batch(
     kept: *const u64,
     words: usize,
@@ -54,7 +50,6 @@ pub unsafe extern "C" fn model_check_batch(
     tell(verdict.map(checked), answer)
 }
 
-#[no_mangle]
 pub unsafe extern "C" fn model_fill(
     kept: *mut u64,
     words: usize,
@@ -71,7 +66,6 @@ pub unsafe extern "C" fn model_fill(
     tell(outcome.map(filled), answer)
 }
 
-#[no_mangle]
 pub unsafe extern "C" fn model_translate(
     kept: *const u64,
     words: usize,

@@ -7,6 +7,7 @@ mod doubles;
 mod events;
 mod forms;
 mod hyp;
+mod passed;
 mod pending;
 mod ranges;
 mod reasons;
@@ -65,6 +66,8 @@ enum Fault {
     Writer(writer::Fault),
     /// Batches are checked otherwise.
     Check(check::Fault),
+    /// A call goes past some rows.
+    Passed(passed::Fault),
 }
 
 pub struct Wrong {
@@ -153,6 +156,9 @@ fn requests() -> Vec<Wrong> {
     for (name, fault) in check::all() {
         add(name, Fault::Check(fault));
     }
+    for (name, fault) in passed::all() {
+        add(name, Fault::Passed(fault));
+    }
     all
 }
 
@@ -227,6 +233,7 @@ impl Wrong {
             Fault::Regions(fault) => return fault.perform(call, kept, answer),
             Fault::Writer(fault) => return fault.perform(call, kept, answer),
             Fault::Check(fault) => return fault.perform(call, kept, answer),
+            Fault::Passed(fault) => return fault.perform(call, kept, answer),
             _ => (),
         }
         let before = kept.copy();
@@ -311,10 +318,10 @@ impl Wrong {
                 answer.inner_mut()[word] = short;
             }
             Fault::Unchecked(of) if of == call.index() && number == 3 && row == ROWS - 1 => {
-                return without_last(call, kept, answer);
+                return seen::without(call, kept, answer, |number, _| number as u64 == ROWS - 1);
             }
             Fault::Unseen if call.index() == TRANSLATE && number == 0 && before.len() > last => {
-                return without_last(call, kept, answer);
+                return seen::without(call, kept, answer, |number, _| number as u64 == ROWS - 1);
             }
             Fault::Unremoved if call.index() == RUN && number == 0 && before.len() > last => {
                 kept.inner_mut()[last] = before[last];
@@ -332,19 +339,6 @@ impl Wrong {
             _ => around.number,
         }
     }
-}
-
-/// The call on a memory whose last row is empty; its words come back as they were.
-fn without_last(call: Call, kept: &mut Memory, answer: &mut Lent) -> u64 {
-    let last = words(ROWS - 1);
-    let mut copy = kept.inner().to_vec();
-    copy[last] = 0;
-    let mut copy = kept.beside(&copy);
-    let number = unit::perform(call, &mut copy, answer);
-    kept.inner_mut()[..last].copy_from_slice(&copy.inner()[..last]);
-    kept.table_mut().copy_from_slice(copy.table());
-    kept.bytes_mut().copy_from_slice(copy.bytes());
-    number
 }
 
 /// The queue with bits of the high word lost in each command of a code.

@@ -169,7 +169,7 @@ pub fn all() -> Vec<Case> {
     vec![
         mixed::case("a", "mixed commands, every second removes a row", USUAL),
         pages::by_address("b", "commands by address, none removes a row", USUAL),
-        pages::without_scope(),
+        pages::without_scope("c", "commands without a scope", USUAL),
         linux::case("d", "a Linux guest's commands", linux::WITHOUT_RANGES),
         chains::check(),
         chains::transaction(),
@@ -202,6 +202,7 @@ pub fn all() -> Vec<Case> {
             "a check of g's commands in another order",
             mixed::case("g", "", LARGEST),
         ),
+        pages::without_scope("p", "as c at the limits", LARGEST),
     ]
 }
 

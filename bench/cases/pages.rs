@@ -2,7 +2,7 @@
 //! command removes any.
 
 use super::{bytes, memory, shuffle, Case, Command, Lent, Per, Size, Work};
-use super::{GUEST_FEATURES, LARGEST, RIL, STAGE1_PAYLOAD, STAGE2_PAYLOAD, USUAL};
+use super::{GUEST_FEATURES, LARGEST, RIL, STAGE1_PAYLOAD, STAGE2_PAYLOAD};
 use crate::random::Random;
 use crate::rows::{Reach, Words, STAGE1, STAGE2};
 
@@ -76,7 +76,7 @@ pub fn by_range(letter: &'static str, what: &'static str, size: Size) -> Case {
     }
 }
 
-pub fn without_scope() -> Case {
+pub fn without_scope(letter: &'static str, what: &'static str, size: Size) -> Case {
     let command = |place: usize| -> Command {
         match place % 3 {
             0 => (0x01, 0),
@@ -84,15 +84,9 @@ pub fn without_scope() -> Case {
             _ => (0x46, 0),
         }
     };
-    let mut commands: Vec<Command> = (0..USUAL.commands()).map(command).collect();
+    let mut commands: Vec<Command> = (0..size.commands()).map(command).collect();
     shuffle(7, &mut commands);
-    Case::full(
-        "c",
-        "commands without a scope",
-        USUAL,
-        &rows(USUAL),
-        &commands,
-    )
+    Case::full(letter, what, size, &rows(size), &commands)
 }
 
 /// A page that no row doubles, into the last row: a fill looks at all of them.

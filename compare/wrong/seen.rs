@@ -29,6 +29,28 @@ pub fn seen(call: Call, memory: &mut Memory, answer: &mut Lent, see: impl Fn(Row
     number
 }
 
+/// The call on a memory in which some used rows are empty; those come back as they were.
+pub fn without(
+    call: Call,
+    memory: &mut Memory,
+    answer: &mut Lent,
+    hidden: impl Fn(usize, &Row) -> bool,
+) -> u64 {
+    let all: Vec<Row> = rows(memory.inner()).collect();
+    let hidden = |number: &usize| all[*number].used() && hidden(*number, &all[*number]);
+    let hidden: Vec<usize> = (0..all.len()).filter(hidden).collect();
+    let mut words = memory.inner().to_vec();
+    hidden.iter().for_each(|&number| words[place(number)] = 0);
+    let mut copy = memory.beside(&words);
+    let number = unit::perform(call, &mut copy, answer);
+    words.copy_from_slice(copy.inner());
+    hidden.iter().for_each(|&row| words[place(row)] = all[row].0[0]);
+    memory.inner_mut().copy_from_slice(&words);
+    memory.table_mut().copy_from_slice(copy.table());
+    memory.bytes_mut().copy_from_slice(copy.bytes());
+    number
+}
+
 /// The run over the only command that waits.
 pub trait Each: Fn(Call, u64, &mut Memory, &mut Lent) -> u64 {}
 impl<T: Fn(Call, u64, &mut Memory, &mut Lent) -> u64> Each for T {}

@@ -1,4 +1,3 @@
-pub mod OtherCommands
 pub mod Marks
 pub mod Comparing
 pub mod CarriedOut

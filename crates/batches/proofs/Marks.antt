@@ -4,7 +4,7 @@ use mathlib.Core.Path.{_≡_, refl, sym, ap, _∙_}
 use mathlib.Core.Bool.{Bool, true, false, not, _&&_, _||_}
 use mathlib.Core.List.{List}
 use mathlib.Core.Logic.{⊎-elim}
-use Prim.Native.Nat.{ℕ, _+_, _≤_, _<_}
+use Prim.Native.Nat.{ℕ, _+_, _-_, _≤_, _<_}
 use native.Mathlib.Decide.{ℕ-discrete}
 use native.Mathlib.Numerals.{add-one}
 use native.Mathlib.Omega.{arith}
@@ -13,6 +13,9 @@ use lib.ListN.{length, set, length-set}
 use lib.Seq.{getD-set-same, getD-set-other}
 use borrow.Author.Tests.{lt-ltb, le-ltb, not-false}
 use Rattle.words.specs.Choice.{pick}
+use Rattle.words.specs.Search.{lowest}
+use Rattle.words.specs.declared.Found.the-variants.{At, Nothing}
+use Rattle.words.proofs.Search.{Lowest, found, none}
 use Rattle.words.proofs.Truth.{less-or-not}
 use Rattle.commands.specs.declared.Features.{Features}
 use Rattle.commands.specs.declared.Command.{Command}
@@ -26,56 +29,98 @@ use Rattle.memory.specs.Memory.{Memory, keptRows, tableRows, rowsIn, scopedAt}
 use Rattle.memory.proofs.Laws.{idle-unscoped, first-alone}
 use Rattle.batches.specs.Blocks.{takenBy, blockRows, inBlock, mark, Marks, AddsBelow, Adds}
 
+or-right : (a : Bool) → true ≡ (a || true)
+or-right true = refl
+or-right false = refl
+
 pub or-false : (a : Bool) {b : Bool} → b ≡ false → a ≡ (a || b)
 or-false true e = refl
 or-false false e = sym e
 
--- the n rows of a block one after the other: those below the j-th are marked, the others as before
-pub record Marking (p : ℕ → Bool) (rows base n : ℕ) (before marks : List Bool) (j : ℕ) : Type 0 where
-  pub count : n ≡ inBlock rows base
-  pub within : j ≤ n
+-- the rows of a block up to row `end`, those in scope one after the other: below row i they are marked, the others as before
+pub record Marking (p : ℕ → Bool) (rows base end : ℕ) (before marks : List Bool) (i : ℕ) : Type 0 where
+  pub count : end ≡ base + inBlock rows base
+  pub from : base ≤ i
+  pub within : i ≤ end
   pub whole : length before ≡ blockRows
   pub long : length marks ≡ length before
-  pub marked : (k : ℕ) → k < j → mark marks k ≡ (mark before k || p (base + k))
-  pub rest : (k : ℕ) → j ≤ k → mark marks k ≡ mark before k
+  pub marked : (k : ℕ) → base + k < i → mark marks k ≡ (mark before k || p (base + k))
+  pub rest : (k : ℕ) → i ≤ base + k → mark marks k ≡ mark before k
 
-pub begins : (p : ℕ → Bool) (rows base n : ℕ) (before : List Bool) → n ≡ inBlock rows base → length before ≡ blockRows → Marking p rows base n before before 0
-begins p rows base n before count whole =
-    record { count = count; within = omega arith; whole = whole; long = refl; marked = λ k h. absurd (omega arith); rest = λ k h. refl }
+pub begins : {p : ℕ → Bool} {rows base end : ℕ} {before : List Bool} → end ≡ base + inBlock rows base → length before ≡ blockRows → Marking p rows base end before before base
+begins count whole =
+    record {
+      count = count;
+      from = omega arith;
+      within = omega (arith, count);
+      whole = whole;
+      long = refl;
+      marked = λ k h. absurd (omega arith);
+      rest = λ k h. refl;
+    }
 
-module _ {p : ℕ → Bool} {rows base n : ℕ} {before marks : List Bool} {j : ℕ} (s : Marking p rows base n before marks j) where
-  -- one more
-  pub in-marks : j < n → j < length marks
-  in-marks h = omega (arith, s .count, s .whole, s .long)
+module _ {p : ℕ → Bool} {rows base end : ℕ} {before marks : List Bool} {i : ℕ} (s : Marking p rows base end before marks i) where
+  pub in-rows : i < end → end ≤ rows
+  in-rows h = omega (arith, h, s .count, s .from)
 
-  pub in-rows : j < n → base + j < rows
-  in-rows h = omega (arith, s .count)
-
-  pub goes-on : {v : Bool} → j < n → v ≡ (mark marks j || p (base + j)) → Marking p rows base n before (set marks j v) (j + 1)
-  goes-on {v} h e =
-      record {
-        count = s .count;
-        within = omega arith;
-        whole = s .whole;
-        long = length-set marks j v ∙ s .long;
-        marked = λ k l. by-place k l (ℕ-discrete k j);
-        rest = λ k l. getD-set-other marks j k v false (omega arith) ∙ s .rest k (omega arith);
-      }
-    where
-      by-place : (k : ℕ) → k < j + 1 → Dec (k ≡ j) → mark (set marks j v) k ≡ (mark before k || p (base + k))
-      by-place k l (yes q) =
-          rw q (getD-set-same marks j v false (in-marks h) ∙ e ∙ ap (λ (b : Bool). b || p (base + j)) (s .rest j (omega arith)))
-      by-place k l (no d) = getD-set-other marks j k v false d ∙ s .marked k (omega arith)
-
-  -- and at the end all that are there
-  pub all-marked : n ≤ j → AddsBelow rows base p before marks
-  all-marked h = record { at = λ k l. ⊎-elim (below k l) (above k l) (less-or-not (base + k) rows) }
+  -- where none from row i on is left, all are marked
+  all-marked : ((j : ℕ) → i ≤ j → j < end → p j ≡ false) → AddsBelow rows base p before marks
+  all-marked none-left = record { at = λ k l. ⊎-elim (below k l) (above k l) (less-or-not (base + k) rows) }
     where
       below : (k : ℕ) → k < blockRows → base + k < rows → mark marks k ≡ (mark before k || (ltb (base + k) rows && p (base + k)))
-      below k l b = rw (lt-ltb (base + k) rows b) (s .marked k (omega (arith, s .count)))
+      below k l b =
+          rw (lt-ltb (base + k) rows b)
+          (⊎-elim (λ h. s .marked k h)
+          (λ h. s .rest k h ∙ or-false (mark before k) (none-left (base + k) h (omega (arith, s .count, l, b))))
+          (less-or-not (base + k) i))
 
       above : (k : ℕ) → k < blockRows → rows ≤ base + k → mark marks k ≡ (mark before k || (ltb (base + k) rows && p (base + k)))
-      above k l b = s .rest k (omega (arith, s .count, s .within)) ∙ or-false (mark before k) (rw (le-ltb (base + k) rows b))
+      above k l b = s .rest k (omega (arith, s .count, s .within, s .from, b)) ∙ or-false (mark before k) (rw (le-ltb (base + k) rows b))
+
+  pub at-end : end ≤ i → AddsBelow rows base p before marks
+  at-end h = all-marked (λ j a b. absurd (omega (arith, h, a, b)))
+
+  pub none-more : lowest p (end - i) i ≡ Nothing → AddsBelow rows base p before marks
+  none-more e = all-marked (none p end i (s .within) e)
+
+  -- the next row in scope
+  module _ {row : ℕ} (e : lowest p (end - i) i ≡ At row) where
+    next : Lowest p end i row
+    next = found p end i row (s .within) e
+
+    pub row-from : base ≤ row
+    row-from = omega (arith, s .from, next .from)
+
+    pub row-below : row < end
+    row-below = next .below
+
+    pub row-past : i < row + 1
+    row-past = omega (arith, next .from)
+
+    pub in-marks : row - base < length marks
+    in-marks = omega (arith, s .count, s .whole, s .long, row-from, row-below)
+
+    pub goes-on : Marking p rows base end before (set marks (row - base) true) (row + 1)
+    goes-on =
+        record {
+          count = s .count;
+          from = omega (arith, row-from);
+          within = omega (arith, row-below);
+          whole = s .whole;
+          long = length-set marks (row - base) true ∙ s .long;
+          marked = λ k l. by-place k l (ℕ-discrete k (row - base));
+          rest = λ k l. getD-set-other marks (row - base) k true false (omega (arith, row-from, l)) ∙ s .rest k (omega (arith, l, next .from));
+        }
+      where
+        by-place : (k : ℕ) → base + k < row + 1 → Dec (k ≡ row - base) → mark (set marks (row - base) true) k ≡ (mark before k || p (base + k))
+        by-place k l (yes q) =
+            let at : base + k ≡ row = omega (arith, q, row-from) in
+            rw (at, next .passes, q) (getD-set-same marks (row - base) true false in-marks ∙ or-right (mark before (row - base)))
+        by-place k l (no d) =
+            getD-set-other marks (row - base) k true false d
+            ∙ ⊎-elim (λ h. s .marked k h)
+            (λ h. s .rest k h ∙ or-false (mark before k) (next .first (base + k) h (omega (arith, l, d, row-from))))
+            (less-or-not (base + k) i)
 
 -- a command: the rows that are looked at are enough, since those behind them are in the scope of none but 70 and 73
 module _ {f : Features} {m : Memory} {base : ℕ} {before : List Bool} {d : Decoded} where

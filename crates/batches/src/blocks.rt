@@ -5,7 +5,7 @@ use commands::Decoded;
 use commands::Features;
 use words::Found;
 ghost use mathlib.Core.Path.{_≡_};
-ghost use mathlib.Core.Bool.{false, _||_};
+ghost use mathlib.Core.Bool.{false};
 ghost use Prim.Native.Nat.{_+_, _-_, _^_, _≤_, _<_};
 ghost use lib.ListN.{length};
 ghost use Rattle.words.specs.Search.{lowest};
@@ -27,17 +27,6 @@ fn rows_in(rows: usize, base: usize) -> usize
     BLOCK
 }
 
-// A row that went need not be looked at again.
-fn goes(kept: &[u64], table: &[u64], f: Features, c: Command, i: usize, went: bool) -> bool
-    requires { ⌜ Whole (both (now kept) (now table)) × (i < rowsIn (both (now kept) (now table))) ⌝ }
-    ensures { λ r. ⌜ r ≡ (went || scopedAt f c (both (now (kept .entry)) (now (table .entry))) i) ⌝ }
-{
-    if went {
-        return true;
-    }
-    due::scoped_at(kept, table, f, c, i)
-}
-
 // Marks the rows of the block, below `rows`, that a command has in scope.
 fn mark_rows(
     kept: &[u64],
@@ -51,11 +40,14 @@ fn mark_rows(
     requires { ⌜ Whole (both (now kept) (now table)) × (rows ≤ rowsIn (both (now kept) (now table))) × (length (now marks) ≡ blockRows) ⌝ }
     ensures { λ r. ⌜ AddsBelow rows base (scopedAt f c (both (now (kept .entry)) (now (table .entry)))) (now (marks .entry)) (now (marks .exit)) ⌝ }
 {
-    let n = rows_in(rows, base);
-    let mut j = 0;
-    while j < n {
-        marks[j] = goes(kept, table, f, c, base + j, marks[j]);
-        j += 1;
+    let end = base + rows_in(rows, base);
+    let mut i = base;
+    while i < end {
+        let Found::At(row) = due::find_in(kept, table, f, c, i, end) else {
+            return;
+        };
+        marks[row - base] = true;
+        i = row + 1;
     }
 }
 

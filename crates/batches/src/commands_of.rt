@@ -1,29 +1,15 @@
 // Which commands of a batch qualify.
-use commands::Command;
 use commands::Decoded;
 use commands::Features;
 use words::Found;
 ghost use mathlib.Core.Path.{_≡_};
-ghost use Rattle.scopes.specs.Scopes.{invalidates};
 ghost use Rattle.batches.specs.Batches.{qualifies, unfit};
-
-// 01, 02 and 46 are no invalidations.
-fn invalidates(c: Command) -> bool
-    ensures { λ r. ⌜ r ≡ invalidates c ⌝ }
-{
-    match c {
-        Command::PrefetchConfig => false,
-        Command::PrefetchAddr => false,
-        Command::Sync(_) => false,
-        _ => true,
-    }
-}
 
 fn qualifies(d: Decoded) -> bool
     ensures { λ r. ⌜ r ≡ qualifies d ⌝ }
 {
     match d {
-        Decoded::Legal(c) => invalidates(c),
+        Decoded::Legal(c) => scopes::invalidates(c),
         Decoded::Illegal(_) => false,
     }
 }

@@ -1,15 +1,17 @@
 -- Codes, as the arms of a match know them.
 -- Assumes nothing.
-use mathlib.Core.Path.{_≡_, refl, ap, _∙_}
-use mathlib.Core.Bool.{Bool, true, false}
+use mathlib.Core.Path.{_≡_, refl, sym, ap, _∙_}
+use mathlib.Core.Bool.{Bool, true, false, not, _||_}
 use mathlib.Core.List.{List, [], _∷_, map}
-use Prim.Native.Nat.{ℕ, suc, _-_}
+use Prim.Native.Nat.{ℕ, suc, _-_, _<_}
 use lib.Dec.{eqb}
 use lib.ListN.{length, take}
-use borrow.Author.Tests.{ne-eqb}
+use borrow.Author.Tests.{eqb-true, eq-eqb, ne-eqb}
 use Rattle.words.specs.Choice.{pick}
 use Rattle.words.specs.Ranges.{get}
 use Rattle.words.specs.Search.{placeOf}
+use Rattle.words.proofs.Truth.{then-true}
+use Rattle.words.proofs.Table.{all-at}
 use Rattle.commands.specs.declared.Features.{Features}
 use Rattle.commands.specs.declared.Command.the-variants.{DptiPa}
 use Rattle.commands.specs.Formats.{dptPageBits, sizeBits, leafBits, isSetIn, dpt, Format, formats, howMany, codeIn, needsIn, commandIn}
@@ -55,3 +57,13 @@ unfolding commandOf
 last-command c x n =
     let is = DptiPa (get dptPageBits c) (get sizeBits c) (isSetIn leafBits c) in
     either-way (eqb x 0x73) is ∙ no-line (λ (l : Format). commandIn l c) (pick (eqb x 0x73) is is) Unit others x n
+
+-- The same of places: the last arm of a match on a place of the table stands for the last place.
+abbrev placesBefore : List ℕ
+placesBefore = 0 ∷ 1 ∷ 2 ∷ 3 ∷ 4 ∷ 5 ∷ 6 ∷ 7 ∷ 8 ∷ 9 ∷ 10 ∷ 11 ∷ 12 ∷ 13 ∷ 14 ∷ 15 ∷ 16 ∷ 17 ∷ 18 ∷ []
+
+pub last-place : (k : ℕ) → k < howMany → NoneOf Unit placesBefore k → k ≡ 19
+last-place k h n =
+    eqb-true k 19
+    (then-true (all-at howMany (λ i. not (eqb (placeOf placesBefore i) 19) || eqb i 19) refl k h)
+    (eq-eqb (placeOf placesBefore k) 19 (sym (no-place Unit placesBefore k n))))

@@ -18,39 +18,15 @@ use Rattle.words.proofs.TwoWords.{set-only}
 use Rattle.commands.specs.declared.Features.{Features}
 use Rattle.commands.specs.declared.Shape.{Shape}
 use Rattle.commands.specs.Formats.{howMany, shapeOf, namedAt, exactly, MasksOf}
-use Rattle.commands.specs.Masks.{rangeMasks}
+use Rattle.commands.specs.Masks.{namedMasks, rangeMasks}
 use Rattle.commands.specs.Decoding.{clean}
-
-abbrev pub masks : List (List ℕ)
-masks =
-    (0xfffffffffffffbff ∷ 0xffffffffffffffff ∷ [])
-    ∷ (0xfffffffffffffbff ∷ 0xffffffffffffffff ∷ [])
-    ∷ (0xffffffff000000ff ∷ 0x1 ∷ [])
-    ∷ (0xffffffff000000ff ∷ 0x1f ∷ [])
-    ∷ (0xfffffffffffff0ff ∷ 0x1 ∷ [])
-    ∷ (0xffffffff000000ff ∷ 0x0 ∷ [])
-    ∷ (0xffff000000ff ∷ 0x0 ∷ [])
-    ∷ (0xffffffff000000ff ∷ 0x0 ∷ [])
-    ∷ (0xffffffff000000ff ∷ 0xfffffffffffff001 ∷ [])
-    ∷ (0xffff000000ff ∷ 0xfffffffffffff001 ∷ [])
-    ∷ (0xff ∷ 0x0 ∷ [])
-    ∷ (0xffff0000000000ff ∷ 0x0 ∷ [])
-    ∷ (0xffff0000000000ff ∷ 0xfffffffffffff001 ∷ [])
-    ∷ (0xff ∷ 0xfffffffffffff001 ∷ [])
-    ∷ (0xffff000000ff ∷ 0x0 ∷ [])
-    ∷ (0xffff000000ff ∷ 0xffffffffff001 ∷ [])
-    ∷ (0xff ∷ 0x0 ∷ [])
-    ∷ (0xffffffff0fc030ff ∷ 0xffffffffffffffff ∷ [])
-    ∷ (0xff ∷ 0x0 ∷ [])
-    ∷ (0xff ∷ 0xffffffffffff01 ∷ [])
-    ∷ []
 
 -- the k-th pair under the features
 abbrev pub maskAt : Features → ℕ → List ℕ
 maskAt f k =
     pick (leb 6 k && leb k 9 && not (f .s2p))
-    (bitAnd (getD (getD masks k []) 0 0) 0xffff0000ffffffff ∷ getD (getD masks k []) 1 0 ∷ [])
-    (getD masks k [])
+    (bitAnd (getD (getD namedMasks k []) 0 0) 0xffff0000ffffffff ∷ getD (getD namedMasks k []) 1 0 ∷ [])
+    (getD namedMasks k [])
 
 -- and with the range's
 abbrev pub maskOf : Features → Shape → ℕ → List ℕ

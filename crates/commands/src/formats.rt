@@ -2,10 +2,12 @@
 use crate::Features;
 use crate::Shape;
 ghost use mathlib.Core.Path.{_≡_};
+ghost use mathlib.Core.List.{[]};
 ghost use Prim.Native.Nat.{_+_, _/_, _≤_, _<_};
+ghost use lib.ListN.{getD};
 ghost use Rattle.words.specs.Parts.{part, joined};
 ghost use Rattle.commands.specs.Formats.{howMany, shapeOf, namedAt, MasksOf};
-ghost use Rattle.commands.specs.Masks.{rangeMasks};
+ghost use Rattle.commands.specs.Masks.{namedMasks, rangeMasks};
 ghost use Rattle.commands.specs.Decoding.{clean};
 
 // How many codes there are.
@@ -95,12 +97,41 @@ fn range_masks(f: Features, s: Shape, k: usize) -> [u64; 2]
     [0x01f1_f000, 0xf00]
 }
 
+// The pair of the k-th code. Each place is a number as it stands, so that no table is built where the pair is asked for.
+fn named(k: usize) -> [u64; 2]
+    requires { ⌜ k < howMany ⌝ }
+    ensures { λ r. ⌜ r ≡ getD namedMasks k [] ⌝ }
+{
+    match k {
+        0 => NAMED[0],
+        1 => NAMED[1],
+        2 => NAMED[2],
+        3 => NAMED[3],
+        4 => NAMED[4],
+        5 => NAMED[5],
+        6 => NAMED[6],
+        7 => NAMED[7],
+        8 => NAMED[8],
+        9 => NAMED[9],
+        10 => NAMED[10],
+        11 => NAMED[11],
+        12 => NAMED[12],
+        13 => NAMED[13],
+        14 => NAMED[14],
+        15 => NAMED[15],
+        16 => NAMED[16],
+        17 => NAMED[17],
+        18 => NAMED[18],
+        _ => NAMED[19],
+    }
+}
+
 // The masks of the k-th code under the features: without S2P the VMID of 10 to 13 is Reserved.
 fn masks(f: Features, s: Shape, k: usize) -> [u64; 2]
     requires { ⌜ k < howMany ⌝ }
     ensures { λ r. ⌜ MasksOf (namedAt f s k) r ⌝ }
 {
-    let named = NAMED[k];
+    let named = named(k);
     let range = range_masks(f, s, k);
     if (NH_FIRST <= k) & (k <= NH_LAST) & !f.s2p {
         return [

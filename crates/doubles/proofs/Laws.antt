@@ -120,6 +120,9 @@ module _ (m : List ℕ) (n : ℕ) (words : Row) where
   unfolding doubled collidesAt
   is-alone f = ap isFound (from-zero (collidesAt m words) n ∙ is-none (collidesAt m words) n 0 (omega arith) (λ j a h. f j h))
 
-  -- marked words always are
+  -- words that may not answer always are, marked ones among them
+  pub silent-alone : mayAnswer words ≡ false → doubled m n words ≡ false
+  silent-alone e = is-alone (λ j h. first-silent words (rowAt m j) e)
+
   pub marked-alone : isUnmarked words ≡ false → doubled m n words ≡ false
-  marked-alone e = is-alone (λ j h. first-marked words (rowAt m j) e)
+  marked-alone e = silent-alone (marked-silent words e)

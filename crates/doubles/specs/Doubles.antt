@@ -1,8 +1,9 @@
 -- Document 02, T-02 and T-05: which rows could answer the same lookup.
 -- Assumes nothing.
-use Prim.Native.Nat.{ℕ, _^_}
+use Prim.Native.Nat.{ℕ, _+_, _-_, _%_, _^_}
 use mathlib.Core.Bool.{Bool, true, false, _&&_, _||_}
 use mathlib.Core.List.{List}
+use lib.Bits.{bitAnd}
 use lib.Dec.{eqb}
 use Rattle.words.specs.Choice.{pick}
 use Rattle.words.specs.Spans.{overlap}
@@ -12,6 +13,8 @@ use Rattle.words.specs.declared.Found.the-variants.{At, Nothing}
 use Rattle.rows.specs.declared.Row.{Row}
 use Rattle.rows.specs.Rows as rows
 use Rattle.image.specs.Image.{rowAt}
+use Rattle.screens.specs.declared.Screen.{Screen}
+use Rattle.screens.specs.declared.Screen.the-variants.{Named, Reaching}
 
 -- rows of one stream, and of one stream and substream
 abbrev pub sameStream : Row → Row → Bool
@@ -44,6 +47,16 @@ collides a b = rows.mayAnswer a && rows.mayAnswer b && eqb (rows.kind a) (rows.k
 
 unfoldable pub collidesAt : List ℕ → Row → ℕ → Bool
 collidesAt m words i = collides words (rowAt m i)
+
+-- Document 02, T-13: what a row must be like to collide with words that may answer; no promise cites these
+abbrev pub moreBytes : Row → ℕ
+moreBytes words = 2 ^ rows.span words - 1
+
+unfoldable pub screenOf : Row → Screen
+screenOf words =
+    pick (eqb (rows.kind words) rows.ste) (Named 0x180e 0x8 0xffffffff (rows.stream words))
+    (pick (eqb (rows.kind words) rows.cd) (Named 0x180e 0xa 0xffffffff (rows.stream words))
+    (Reaching 0xffff180e (bitAnd (words .w0) 0xffff180e) ((words .w2 + moreBytes words) % 2 ^ 64) (moreBytes words)))
 
 abbrev pub isFound : Found → Bool
 isFound (At i) = true

@@ -1,10 +1,13 @@
 // Whether two rows could answer the same lookup, so that a fill can refuse a second one.
 use rows::Row;
 use rows::kinds;
+use screens::Screen;
+use screens::answering;
+use words::Found;
 ghost use mathlib.Core.Path.{_≡_};
 ghost use Prim.Native.Nat.{_+_, _*_, _≤_};
 ghost use lib.ListN.{length};
-ghost use Rattle.doubles.specs.Doubles.{sameContext, sharesAddress, sharesStage, sharesAsid, shares, collides, collidesAt, doubled};
+ghost use Rattle.doubles.specs.Doubles.{sameContext, sharesAddress, sharesStage, sharesAsid, shares, collides, collidesAt, screenOf, doubled};
 
 fn same_context(a: Row, b: Row) -> bool
     ensures { λ r. ⌜ r ≡ sameContext a b ⌝ }
@@ -72,17 +75,45 @@ fn collides_at(kept: &[u64], words: Row, i: usize) -> bool
     collides(words, image::row_at(kept, i))
 }
 
-// Whether the words collide with one of the first n rows.
+// What a row must be like to collide with words that may answer. A last byte past the top is taken around it.
+fn screen_of(words: Row) -> Screen
+    ensures { λ r. ⌜ r ≡ screenOf words ⌝ }
+{
+    let kind = rows::kind_of(words);
+    let stream = rows::stream_of(words);
+    if kind == kinds::STE {
+        return Screen::Named(answering::KIND, answering::STE, answering::STREAM, stream);
+    }
+    if kind == kinds::CD {
+        return Screen::Named(answering::KIND, answering::CD, answering::STREAM, stream);
+    }
+    let more = words::power(rows::span_of(words)) - 1;
+    Screen::Reaching(
+        answering::KIND_VMID,
+        words.w0 & answering::KIND_VMID,
+        std::num::wrapping_add_u64(words.w2, more),
+        more,
+    )
+}
+
+// Whether the words collide with one of the first n rows. Only rows that the screen lets through are asked.
 pub fn doubled(kept: &[u64], n: usize, words: Row) -> bool
     requires { ⌜ 4 * n + 1 ≤ length (now kept) ⌝ }
     ensures { λ r. ⌜ r ≡ doubled (now (kept .entry)) n words ⌝ }
 {
+    if !rows::may_answer(words) {
+        return false;
+    }
+    let s = screen_of(words);
     let mut i = 0;
     while i < n {
-        if collides_at(kept, words, i) {
+        let Found::At(row) = screens::next(kept, s, i, n) else {
+            return false;
+        };
+        if collides_at(kept, words, row) {
             return true;
         }
-        i += 1;
+        i = row + 1;
     }
     false
 }

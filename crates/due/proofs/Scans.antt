@@ -1,45 +1,69 @@
--- Scans: an idle command finds nothing; a row that went is found no more, nor is any below it.
+-- Scans: a command that is no invalidation finds nothing; a row that went is found no more, nor is any below it.
 -- Assumes nothing.
 use mathlib.Core.Path.{_≡_, refl, sym, _∙_}
 use mathlib.Core.Bool.{Bool, true, false}
-use Prim.Native.Nat.{ℕ, _+_, _-_, _≤_, _<_}
+use mathlib.Core.List.{List}
+use Prim.Native.Nat.{ℕ, _+_, _-_, _≤_, _<_, min, max}
 use native.Mathlib.Decide.{ℕ-discrete}
 use native.Mathlib.Omega.{arith}
-use Rattle.words.specs.Choice.{pick}
+use Rattle.words.specs.Search.{lowest}
 use Rattle.words.specs.declared.Found.{Found}
 use Rattle.words.specs.declared.Found.the-variants.{At, Nothing}
-use Rattle.words.proofs.Search.{Lowest, Searching, from-zero, found, finds-none, is-none, passes-over}
+use Rattle.words.proofs.Search.{Lowest, Searching, Wider, over-none, from-zero, found, is-none, passes-over, lowest-same}
 use Rattle.commands.specs.declared.Features.{Features}
 use Rattle.commands.specs.declared.Command.{Command}
-use Rattle.scopes.specs.Scopes.{idle}
-use Rattle.region_scopes.specs.Scopes.{isRegional}
-use Rattle.memory.specs.Memory.{Memory, keptRows, tableRows, rowsIn, scopedAt, cleared, Whole}
-use Rattle.memory.proofs.Laws.{idle-unscoped, first-alone, scoped-cleared, scoped-other}
+use Rattle.scopes.specs.Scopes.{invalidates, idle, inScope}
+use Rattle.regions.specs.Table as regions
+use Rattle.region_scopes.specs.Scopes.{isRegional, inTable}
+use Rattle.memory.specs.Memory.{Memory, keptRows, rowsIn, scopedAt, cleared, Whole}
+use Rattle.memory.proofs.Laws.{idle-unscoped, is-kept, is-behind, scope-kept, scope-behind, first-alone, second-alone, scoped-cleared, scoped-other}
+use Rattle.image.specs.Image.{rowAt}
+use Rattle.screens.specs.Screens.{passesAt}
+use Rattle.scope_screens.specs.ScopeScreens.{screenOf}
+use Rattle.scope_screens.proofs.LetThrough.{unscoped}
 use Rattle.due.specs.Due.{scan}
 
 module _ (f : Features) (c : Command) (m : Memory) where
-  pub idle-finds-nothing : (n i : ℕ) → i ≤ n → idle f c ≡ true → scan f c m (n - i) i ≡ Nothing
-  idle-finds-nothing n i h e = is-none (scopedAt f c m) n i h (λ j a b. idle-unscoped f c m j e)
+  pub other-finds-nothing : (n i : ℕ) → i ≤ n → invalidates c ≡ false → scan f c m (n - i) i ≡ Nothing
+  unfolding idle
+  other-finds-nothing n i h e = is-none (scopedAt f c m) n i h (λ j a b. idle-unscoped f c m j (rw e))
 
   -- what a scan from the first row finds is the lowest row in scope
   pub lowest-scoped : (n i : ℕ) → scan f c m n 0 ≡ At i → Lowest (scopedAt f c m) n 0 i
   lowest-scoped n i e = found (scopedAt f c m) n 0 i (omega arith) (sym (from-zero (scopedAt f c m) n) ∙ e)
 
--- Document 02, T-11: the rows that a search looks at are enough, since those behind them are in the scope of none but 70 and 73
-module _ (f : Features) (c : Command) (m : Memory) (rows : ℕ) (is : rows ≡ pick (isRegional c) (keptRows m + tableRows m) (keptRows m)) where
-  pub below-all : (i : ℕ) → i < rows → i < rowsIn m
-  below-all i h = by-table (isRegional c) is
-    where
-      by-table : (b : Bool) → rows ≡ pick b (keptRows m + tableRows m) (keptRows m) → i < rowsIn m
-      by-table true e = omega (arith, e, h)
-      by-table false e = omega (arith, e, h)
+-- a row of the second table, by the place of all rows
+abbrev pub secondAt : Command → List ℕ → ℕ → ℕ → Bool
+secondAt c table rows i = inTable c (regions.rowAt table (i - rows))
 
-  pub none-behind : (target : Found) (i : ℕ) → rows ≤ i → Searching (scopedAt f c m) (rowsIn m) target i → Nothing ≡ target
-  none-behind target i h s = by-table (isRegional c) refl is
+-- a search of it that began at row `start`, under way at row i
+pub record Behind (c : Command) (table : List ℕ) (rows to start i : ℕ) : Type 0 where
+  pub going : Searching (secondAt c table rows) to (lowest (secondAt c table rows) (to - start) start) i
+  pub past : min rows to ≤ i
+
+module _ (f : Features) (c : Command) (m : Memory) (from to : ℕ) where
+  -- Document 02, T-11: a command about the second table has no row of the first in scope
+  pub from-second : (i : ℕ) → isRegional c ≡ true → from ≤ to → i ≡ max from (min (keptRows m) to)
+      → lowest (scopedAt f c m) (to - from) from ≡ lowest (secondAt c (m .table) (keptRows m)) (to - i) i
+  from-second i r h e =
+      here .same
+      ∙ lowest-same (scopedAt f c m) (secondAt c (m .table) (keptRows m)) (to - i) i (λ j a b. scope-behind m j f c (is-behind m j (omega (arith, e, a, b))))
     where
-      by-table : (b : Bool) → isRegional c ≡ b → rows ≡ pick b (keptRows m + tableRows m) (keptRows m) → Nothing ≡ target
-      by-table true r e = finds-none s (omega (arith, e, h))
-      by-table false r e = sym (s .same ∙ is-none (scopedAt f c m) (rowsIn m) i (s .within) (λ j a b. first-alone f c m r j (omega (arith, e, h, a))))
+      here : Searching (scopedAt f c m) to (lowest (scopedAt f c m) (to - from) from) i
+      here =
+          over-none i (record { within = h; same = refl }) (omega (arith, e)) (omega (arith, e)) (λ j b l. second-alone f c m r j (omega (arith, e, b, l)))
+
+  -- any other has none of the second. Document 02, T-13: nor one that its screen does not let through
+  pub in-first : (end j : ℕ) → end ≡ min (keptRows m) to → j < end → scopedAt f c m j ≡ inScope f c (rowAt (m .kept) j)
+  in-first end j is h = scope-kept m j f c (is-kept m j (omega (arith, is, h)))
+
+  pub screened : (end : ℕ) → isRegional c ≡ false → end ≡ min (keptRows m) to → Wider (scopedAt f c m) (passesAt (screenOf f c) (m .kept)) end to
+  screened end r is =
+      record {
+        most = omega (arith, is);
+        narrows = λ j h e. in-first end j is h ∙ unscoped f c (rowAt (m .kept) j) e;
+        behind = λ j a b. first-alone f c m r j (omega (arith, is, a, b));
+      }
 
 -- behind a row that went the scan goes on
 pub goes-on : (f : Features) (c : Command) (m : Memory) (i : ℕ) → Whole m → Lowest (scopedAt f c m) (rowsIn m) 0 i

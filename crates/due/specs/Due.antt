@@ -37,6 +37,12 @@ pub data Due : Type 0 where
   Rests : Rest → Due
   Stores : Place → ℕ → What → Due
 
+-- rows from one on and below another, in memory that has them
+pub record Among (m : Memory) (from to : ℕ) : Type 0 where
+  pub room : Whole m
+  pub order : from ≤ to
+  pub high : to ≤ rowsIn m
+
 -- the lowest row in scope, of the n from row i on
 abbrev pub scan : Features → Command → Memory → ℕ → ℕ → Found
 scan f command m n i = lowest (scopedAt f command m) n i

@@ -6,11 +6,13 @@ use commands::Features;
 use commands::Reason;
 use words::Found;
 ghost use mathlib.Core.Path.{_≡_};
-ghost use Prim.Native.Nat.{_+_, _^_, _≤_, _<_};
+ghost use mathlib.Core.Bool.{true, false};
+ghost use Prim.Native.Nat.{_+_, _-_, _^_, _≤_, _<_, min, max};
 ghost use Rattle.words.specs.Choice.{pick};
+ghost use Rattle.words.specs.Search.{lowest};
 ghost use Rattle.region_scopes.specs.Scopes.{isRegional};
 ghost use Rattle.memory.specs.Memory.{both, rowsIn, scopedAt, Whole};
-ghost use Rattle.due.specs.Due.{scanned, afterCommand, Ready, Made};
+ghost use Rattle.due.specs.Due.{Among, scanned, afterCommand, Ready, Made};
 ghost use Rattle.commands.specs.declared.Decoded.the-variants.{Legal};
 
 // Document 02, T-09: what a raised error tells: why the command is illegal, and the slot that it is in.
@@ -26,18 +28,6 @@ pub enum Stepped {
     DidRaise(Raising),
 }
 
-// Row i is of the first table or, behind those, of the second.
-pub fn scoped_at(kept: &[u64], table: &[u64], f: Features, c: Command, i: usize) -> bool
-    requires { ⌜ Whole (both (now kept) (now table)) × (i < rowsIn (both (now kept) (now table))) ⌝ }
-    ensures { λ r. ⌜ r ≡ scopedAt f c (both (now (kept .entry)) (now (table .entry))) i ⌝ }
-{
-    let rows = kept.len() / 4;
-    if i < rows {
-        return scopes::in_scope(f, c, image::row_at(kept, i));
-    }
-    region_scopes::in_table(c, regions::row_at(table, i - rows))
-}
-
 // How many rows need be looked at: a command that is not about the second table does not pay for it.
 pub fn rows_for(c: Command, rows: usize, more: usize) -> usize
     requires { ⌜ rows + more < 2 ^ 64 ⌝ }
@@ -49,23 +39,94 @@ pub fn rows_for(c: Command, rows: usize, more: usize) -> usize
     rows
 }
 
-// The lowest row from `from` on that is in scope.
-fn find_from(kept: &[u64], table: &[u64], f: Features, c: Command, from: usize) -> Found
-    requires { ⌜ Whole (both (now kept) (now table)) × (from ≤ rowsIn (both (now kept) (now table))) ⌝ }
-    ensures { λ r. ⌜ r ≡ scanned f c (both (now (kept .entry)) (now (table .entry))) from ⌝ }
+fn lesser(a: usize, b: usize) -> usize
+    ensures { λ r. ⌜ r ≡ min a b ⌝ }
 {
-    if scopes::idle(f, c) {
-        return Found::Nothing;
+    if a < b {
+        return a;
     }
-    let rows = rows_for(c, kept.len() / 4, table.len() / 2);
-    let mut i = from;
-    while i < rows {
-        if scoped_at(kept, table, f, c, i) {
+    b
+}
+
+fn greater(a: usize, b: usize) -> usize
+    ensures { λ r. ⌜ r ≡ max a b ⌝ }
+{
+    if a < b {
+        return b;
+    }
+    a
+}
+
+// Of a command about the second table: no row before it is looked at.
+fn find_second(
+    kept: &[u64],
+    table: &[u64],
+    f: Features,
+    c: Command,
+    from: usize,
+    to: usize,
+) -> Found
+    requires { ⌜ Among (both (now kept) (now table)) from to × (isRegional c ≡ true) ⌝ }
+    ensures { λ r. ⌜ r ≡ lowest (scopedAt f c (both (now (kept .entry)) (now (table .entry)))) (to - from) from ⌝ }
+{
+    let rows = kept.len() / 4;
+    let mut i = greater(from, lesser(rows, to));
+    while i < to {
+        if region_scopes::in_table(c, regions::row_at(table, i - rows)) {
             return Found::At(i);
         }
         i += 1;
     }
     Found::Nothing
+}
+
+// Of any other: only rows that its screen lets through are asked, and none of the second table.
+fn find_first(kept: &[u64], table: &[u64], f: Features, c: Command, from: usize, to: usize) -> Found
+    requires { ⌜ Among (both (now kept) (now table)) from to × (isRegional c ≡ false) ⌝ }
+    ensures { λ r. ⌜ r ≡ lowest (scopedAt f c (both (now (kept .entry)) (now (table .entry)))) (to - from) from ⌝ }
+{
+    let s = scope_screens::screen_of(f, c);
+    let end = lesser(kept.len() / 4, to);
+    let mut i = from;
+    while i < end {
+        let Found::At(row) = screens::next(kept, s, i, end) else {
+            return Found::Nothing;
+        };
+        if scopes::in_scope(f, c, image::row_at(kept, row)) {
+            return Found::At(row);
+        }
+        i = row + 1;
+    }
+    Found::Nothing
+}
+
+// The lowest row from `from` on and below `to` that is in scope.
+pub fn find_in(
+    kept: &[u64],
+    table: &[u64],
+    f: Features,
+    c: Command,
+    from: usize,
+    to: usize,
+) -> Found
+    requires { ⌜ Among (both (now kept) (now table)) from to ⌝ }
+    ensures { λ r. ⌜ r ≡ lowest (scopedAt f c (both (now (kept .entry)) (now (table .entry)))) (to - from) from ⌝ }
+{
+    if !region_scopes::is_regional(c) {
+        return find_first(kept, table, f, c, from, to);
+    }
+    find_second(kept, table, f, c, from, to)
+}
+
+// The lowest row from `from` on that is in scope. A command that removes nothing is told before it is handed on.
+fn find_from(kept: &[u64], table: &[u64], f: Features, c: Command, from: usize) -> Found
+    requires { ⌜ Whole (both (now kept) (now table)) × (from ≤ rowsIn (both (now kept) (now table))) ⌝ }
+    ensures { λ r. ⌜ r ≡ scanned f c (both (now (kept .entry)) (now (table .entry))) from ⌝ }
+{
+    if !scopes::invalidates(c) {
+        return Found::Nothing;
+    }
+    find_in(kept, table, f, c, from, kept.len() / 4 + table.len() / 2)
 }
 
 // The control word after a command is consumed: the interrupt of a CMD_SYNC with CS 1 is pending by the same store.

@@ -1,15 +1,18 @@
 -- Document 01, A transaction, and document 02, T-05: the row that answers a step.
 -- Assumes nothing.
-use Prim.Native.Nat.{ℕ}
+use Prim.Native.Nat.{ℕ, _+_, _*_, _^_}
 use mathlib.Core.Bool.{Bool, _&&_, _||_}
 use mathlib.Core.List.{List}
 use lib.Dec.{eqb}
+use Rattle.words.specs.Parts.{part}
 use Rattle.words.specs.Search.{lowest}
 use Rattle.words.specs.declared.Found.{Found}
 use Rattle.words.specs.declared.Found.the-variants.{At, Nothing}
 use Rattle.rows.specs.declared.Row.{Row}
 use Rattle.rows.specs.Rows as rows
 use Rattle.image.specs.Image.{rowsIn, rowAt}
+use Rattle.screens.specs.declared.Screen.{Screen}
+use Rattle.screens.specs.declared.Screen.the-variants.{Named, Covering}
 use Rattle.lookups.specs.declared.Wanted.{Wanted}
 use Rattle.lookups.specs.declared.Wanted.the-variants.{Ste, Cd, Stage1, Stage2}
 use Rattle.lookups.specs.declared.Looked.{Looked}
@@ -34,6 +37,16 @@ answers w row = rows.mayAnswer row && fits w row
 
 unfoldable pub answersAt : List ℕ → Wanted → ℕ → Bool
 answersAt m w i = answers w (rowAt m i)
+
+-- Document 02, T-13: what a row must be like to answer; no promise cites these
+abbrev pub vmidInPlace : ℕ → ℕ
+vmidInPlace vmid = part 15 0 vmid * 2 ^ 16
+
+abbrev pub screenOf : Wanted → Screen
+screenOf (Ste stream) = Named 0x180e 0x8 0xffffffff stream
+screenOf (Cd stream substream) = Named 0x180e 0xa 0xffffffff stream
+screenOf (Stage1 vmid asid address) = Covering 0xffff180e (0xc + vmidInPlace vmid) address
+screenOf (Stage2 vmid address) = Covering 0xffff180e (0xe + vmidInPlace vmid) address
 
 -- the place of the lowest-numbered such row
 unfoldable pub find : List ℕ → Wanted → Found

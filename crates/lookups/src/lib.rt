@@ -1,12 +1,14 @@
 // Which row answers a step of a transaction: the lowest last-level, unmarked row that fits what the step wants.
 use rows::Row;
 use rows::kinds;
+use screens::Screen;
+use screens::answering;
 use words::Found;
 ghost use mathlib.Core.Path.{_≡_};
-ghost use Prim.Native.Nat.{_+_, _*_, _≤_};
+ghost use Prim.Native.Nat.{_+_, _*_, _^_, _≤_};
 ghost use lib.ListN.{length};
 ghost use Rattle.image.specs.Image.{rowsIn};
-ghost use Rattle.lookups.specs.Lookups.{fits, answers, answersAt, find, look};
+ghost use Rattle.lookups.specs.Lookups.{fits, answers, answersAt, vmidInPlace, screenOf, find, look};
 
 // What a step looks for: the STE row of a stream, the CD row of a stream and a substream, the stage 1 row of a VMID,
 // an ASID and an address, the stage 2 row of a VMID and an address.
@@ -58,18 +60,53 @@ fn answers_at(kept: &[u64], w: Wanted, i: usize) -> bool
     answers(w, image::row_at(kept, i))
 }
 
-// The place of the lowest row that answers.
+// A VMID in its place in word 0. A row's has 16 bits, so no row answers a wider one, and any screen is right for it.
+fn vmid_in_place(vmid: u64) -> u64
+    ensures { λ r. ⌜ (r ≡ vmidInPlace vmid) × (r ≤ 2 ^ 32) ⌝ }
+{
+    words::part(vmid, 15, 0) * 0x1_0000
+}
+
+// What a row must be like to answer.
+fn screen_of(w: Wanted) -> Screen
+    ensures { λ r. ⌜ r ≡ screenOf w ⌝ }
+{
+    match w {
+        Wanted::Ste(stream) => {
+            Screen::Named(answering::KIND, answering::STE, answering::STREAM, stream)
+        }
+        Wanted::Cd(stream, _) => {
+            Screen::Named(answering::KIND, answering::CD, answering::STREAM, stream)
+        }
+        Wanted::Stage1(vmid, _, address) => Screen::Covering(
+            answering::KIND_VMID,
+            answering::STAGE1 + vmid_in_place(vmid),
+            address,
+        ),
+        Wanted::Stage2(vmid, address) => Screen::Covering(
+            answering::KIND_VMID,
+            answering::STAGE2 + vmid_in_place(vmid),
+            address,
+        ),
+    }
+}
+
+// The place of the lowest row that answers. Only rows that the screen lets through are asked.
 fn find(kept: &[u64], w: Wanted) -> Found
     requires { ⌜ 4 * rowsIn (now kept) + 1 ≤ length (now kept) ⌝ }
     ensures { λ r. ⌜ r ≡ find (now (kept .entry)) w ⌝ }
 {
     let rows = kept.len() / 4;
+    let s = screen_of(w);
     let mut i = 0;
     while i < rows {
-        if answers_at(kept, w, i) {
-            return Found::At(i);
+        let Found::At(row) = screens::next(kept, s, i, rows) else {
+            return Found::Nothing;
+        };
+        if answers_at(kept, w, row) {
+            return Found::At(row);
         }
-        i += 1;
+        i = row + 1;
     }
     Found::Nothing
 }

@@ -158,7 +158,7 @@ module _ (n a : ℕ) (e : placed n a ≡ true) where
   unfolding begins
   placed-begins k = either-way (eqb k stage1)
 
-unmarked-good : (row : Row) → isUnmarked row ≡ true → markGood row ≡ true
+pub unmarked-good : (row : Row) → isUnmarked row ≡ true → markGood row ≡ true
 unfolding markGood
 unmarked-good row =
     or-left (isUnmarked row)

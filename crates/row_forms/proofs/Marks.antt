@@ -32,7 +32,7 @@ unfolding spares
 all-spare = refl
 
 module _ (row : Row) where
-  shape-kind : shape row % 4 ≡ kind row
+  pub shape-kind : shape row % 4 ≡ kind row
   unfolding part
   shape-kind = omega arith
 

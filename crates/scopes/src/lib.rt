@@ -1,7 +1,10 @@
 // Document 01, Commands and their scopes, with document 02, T-05, T-07 and T-11: which rows a legal command removes.
+mod invalidating;
+
 use commands::Command;
 use commands::Features;
 use commands::Target;
+pub use invalidating::invalidates;
 use rows::Row;
 use rows::kinds;
 use rows::marks;
@@ -130,7 +133,7 @@ fn granule_of(target: Target) -> u64
     }
 }
 
-fn first_of(target: Target) -> u64
+pub fn first_of(target: Target) -> u64
     ensures { λ r. ⌜ r ≡ firstOf target ⌝ }
 {
     let granule = words::power(granule_of(target));
@@ -138,7 +141,7 @@ fn first_of(target: Target) -> u64
 }
 
 // At most 2^5 * 2^31 * 2^16 bytes. Where they end need not fit a word, so it is not formed.
-fn length_of(target: Target) -> u64
+pub fn length_of(target: Target) -> u64
     ensures { λ r. ⌜ (r ≡ lengthOf target) × (0 < r) ⌝ }
 {
     if words::part(target.tg, 1, 0) == 0 {
@@ -175,7 +178,7 @@ fn is_global(row: Row) -> bool
 }
 
 // How many bits of a stream a Range leaves open: one more than its number, which has five bits.
-fn open_bits(range: u64) -> u64
+pub fn open_bits(range: u64) -> u64
     ensures { λ r. ⌜ (r ≡ openBits range) × (r < 64) ⌝ }
 {
     words::part(range, 4, 0) + 1

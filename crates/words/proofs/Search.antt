@@ -15,7 +15,7 @@ use Rattle.words.specs.Choice.{pick}
 use Rattle.words.specs.declared.Found.{Found}
 use Rattle.words.specs.declared.Found.the-variants.{At, Nothing}
 use Rattle.words.specs.Search.{lowest, count, placeOf}
-use Rattle.words.proofs.Truth.{clash, decided, left, right}
+use Rattle.words.proofs.Truth.{clash, decided, left, right, less-or-not}
 
 -- k is the lowest number from i on and below n that passes
 pub record Lowest (p : ℕ → Bool) (n i k : ℕ) : Type 0 where
@@ -119,6 +119,60 @@ module _ {p : ℕ → Bool} {n : ℕ} {target : Found} {i : ℕ} (s : Searching 
 
   pub finds-none : n ≤ i → Nothing ≡ target
   finds-none h = sym (s .same ∙ nowhere p n i h)
+
+-- it passes over numbers of which none passes
+none-by-steps : {p : ℕ → Bool} {n : ℕ} {target : Found} (d i : ℕ) → Searching p n target i → i + d ≤ n → ((j : ℕ) → i ≤ j → j < i + d → p j ≡ false)
+    → Searching p n target (i + d)
+none-by-steps {p} {n} {target} zero i s h none = let e : i ≡ i + 0 = omega arith in subst (Searching p n target) e s
+none-by-steps {p} {n} {target} (suc d) i s h none =
+    let e : i + 1 + d ≡ i + suc d = omega arith in
+    subst (Searching p n target) e
+    (none-by-steps d (i + 1) (passes s (omega arith) (none i (omega arith) (omega arith))) (omega arith) (λ j a b. none j (omega arith) (omega arith)))
+
+pub over-none : {p : ℕ → Bool} {n : ℕ} {target : Found} {i : ℕ} (k : ℕ) → Searching p n target i → i ≤ k → k ≤ n → ((j : ℕ) → i ≤ j → j < k → p j ≡ false)
+    → Searching p n target k
+over-none {p} {n} {target} {i} k s a b none =
+    let e : i + (k - i) ≡ k = omega arith in
+    subst (Searching p n target) e (none-by-steps (k - i) i s (omega arith) (λ j c d. none j c (omega arith)))
+
+pub none-left : {p : ℕ → Bool} {n : ℕ} {target : Found} {i : ℕ} → Searching p n target i → ((j : ℕ) → i ≤ j → j < n → p j ≡ false) → Nothing ≡ target
+none-left {p} {n} {i = i} s none = sym (s .same ∙ is-none p n i (s .within) none)
+
+-- a wider test below m: what it does not let through does not pass, nor does anything from m on
+pub record Wider (p q : ℕ → Bool) (m n : ℕ) : Type 0 where
+  pub most : m ≤ n
+  pub narrows : (j : ℕ) → j < m → q j ≡ false → p j ≡ false
+  pub behind : (j : ℕ) → m ≤ j → j < n → p j ≡ false
+
+-- so a search may ask only what it lets through
+module _ {p q : ℕ → Bool} {m n : ℕ} {target : Found} {i : ℕ} (w : Wider p q m n) (s : Searching p n target i) where
+  pub spent : m ≤ i → Nothing ≡ target
+  spent h = none-left s (λ j a b. w .behind j (omega arith) b)
+
+  pub none-let : i ≤ m → lowest q (m - i) i ≡ Nothing → Nothing ≡ target
+  none-let h e = none-left s (λ j a b. ⊎-elim (λ l. w .narrows j l (none q m i h e j a l)) (λ g. w .behind j g b) (less-or-not j m))
+
+  module _ {k : ℕ} (h : i ≤ m) (e : lowest q (m - i) i ≡ At k) where
+    let-through : Lowest q m i k
+    let-through = found q m i k h e
+
+    pub let-from : i ≤ k
+    let-from = let-through .from
+
+    pub let-below : k < m
+    let-below = let-through .below
+
+    pub let-is : q k ≡ true
+    let-is = let-through .passes
+
+    let-here : Searching p n target k
+    let-here = over-none k s let-from (omega (arith, let-below, w .most)) (λ j a b. w .narrows j (omega (arith, b, let-below)) (let-through .first j a b))
+
+    pub let-finds : p k ≡ true → At k ≡ target
+    let-finds t = finds let-here (omega (arith, let-below, w .most)) t
+
+    pub let-passes : p k ≡ false → Searching p n target (k + 1)
+    let-passes t = passes let-here (omega (arith, let-below, w .most)) t
 
 -- a search passes over a beginning where none passes
 pub passes-over : (p : ℕ → Bool) (n k : ℕ) → k ≤ n → ((j : ℕ) → j < k → p j ≡ false) → lowest p n 0 ≡ lowest p (n - k) k

@@ -1,0 +1,4 @@
+mod Near
+mod Words
+mod Cases
+pub mod LetThrough

@@ -1,0 +1,56 @@
+// Rows by their word 0.
+use rows::Row;
+use words::Found;
+ghost use mathlib.Core.Path.{_≡_};
+ghost use Prim.Native.Nat.{_+_, _*_, _≤_};
+ghost use lib.ListN.{length};
+ghost use Rattle.image.specs.Image.{rowAt};
+ghost use Rattle.screens.specs.Screens.{marked, anyFour, lowestFrom, Within, Skips};
+
+// Word 0 has the value under the mask.
+pub fn test(row: Row, mask: u64, value: u64) -> bool
+    ensures { λ r. ⌜ r ≡ marked mask value row ⌝ }
+{
+    row.w0 & mask == value
+}
+
+// Whether one of the four rows from row i on is.
+fn four(kept: &[u64], mask: u64, value: u64, i: usize) -> bool
+    requires { ⌜ 4 * i + 17 ≤ length (now kept) ⌝ }
+    ensures { λ r. ⌜ r ≡ anyFour (λ j. marked mask value (rowAt (now (kept .entry)) j)) i ⌝ }
+{
+    test(image::row_at(kept, i), mask, value)
+        | test(image::row_at(kept, i + 1), mask, value)
+        | test(image::row_at(kept, i + 2), mask, value)
+        | test(image::row_at(kept, i + 3), mask, value)
+}
+
+// Goes past rows that are not, eight at a time.
+fn skip(kept: &[u64], mask: u64, value: u64, from: usize, to: usize) -> usize
+    requires { ⌜ Within (now kept) from to ⌝ }
+    ensures { λ r. ⌜ Skips (λ j. marked mask value (rowAt (now (kept .entry)) j)) from to r ⌝ }
+{
+    let mut i = from;
+    while 8 <= to - i {
+        if four(kept, mask, value, i) | four(kept, mask, value, i + 4) {
+            return i;
+        }
+        i += 8;
+    }
+    i
+}
+
+// The lowest row from `from` on, and below `to`, that is.
+pub fn next(kept: &[u64], mask: u64, value: u64, from: usize, to: usize) -> Found
+    requires { ⌜ Within (now kept) from to ⌝ }
+    ensures { λ r. ⌜ r ≡ lowestFrom (λ j. marked mask value (rowAt (now (kept .entry)) j)) from to ⌝ }
+{
+    let mut i = skip(kept, mask, value, from, to);
+    while i < to {
+        if test(image::row_at(kept, i), mask, value) {
+            return Found::At(i);
+        }
+        i += 1;
+    }
+    Found::Nothing
+}
