@@ -1,0 +1,4 @@
+pub mod Night
+pub mod Retries
+pub mod Cuts
+pub mod Finishing
