@@ -38,6 +38,10 @@ module _ (c : Call) (w : World) (a : Accepted w) where
   pub whatever-allowance : (k : ℕ) → (EndsCut c (tried c k w .answer) → ⊥) → tried c k w ≡ uncut unit c w
   whatever-allowance k last = retries c .whole k w a last
 
+  -- so is a call that was cut any number of times, once it is finished: answer, with a run's counts summed, and world
+  pub finished-as-uncut : (o : Outcome World (Answer c)) → Finishes unit c w o → o ≡ uncut unit c w
+  finished-as-uncut o tries = call-as-uncut unit Accepted retries c a tries
+
   -- cut so often and at whatever allowances, it may still be finished, and then ends as the call without cuts
   pub cuts-may-end : (ks : List ℕ) → CutAt unit c ks w → Finishes unit c w (uncut unit c w)
   cuts-may-end ks cuts = cuts-finish unit Accepted retries c a cuts
@@ -50,13 +54,13 @@ pub counts-add-up : (f : Features) (queue : List ℕ) (w : World) → Accepted w
     → EndsCut (Run f queue) (tried (Run f queue) k w .answer) → Finishes unit (Run f queue) (tried (Run f queue) k w .memory) o
     → tried (Run f queue) k w .answer ≡ Done ran → o .answer ≡ Done ran′
     → uncut unit (Run f queue) w .answer
-      ≡ Done (record {
-        end = ran′ .end;
-        consumed = ran .consumed + ran′ .consumed;
-        stores = ran .stores + ran′ .stores;
-        removed = ran .removed + ran′ .removed;
-        syncs = ran .syncs + ran′ .syncs;
-      })
+    ≡ Done (record {
+      end = ran′ .end;
+      consumed = ran .consumed + ran′ .consumed;
+      stores = ran .stores + ran′ .stores;
+      removed = ran .removed + ran′ .removed;
+      syncs = ran .syncs + ran′ .syncs;
+    })
 counts-add-up f queue w a k o ran ran′ cut tries is is′ =
     sym (ap (λ (x : Outcome World RunAnswer). x .answer) (call-as-uncut unit Accepted retries (Run f queue) a (again k cut tries)))
     ∙ rw (is, is′)

@@ -25,30 +25,37 @@ use Rattle.control_calls.specs.declared.AcknowledgeAnswer.{AcknowledgeAnswer}
 use Rattle.control_calls.specs.declared.ClearAnswer.{ClearAnswer}
 use Rattle.control_calls.proofs.Laws as control-calls
 use Rattle.fills.specs.declared.FillEnd.the-variants.{Filled, Cut as Fill·Cut}
+use Rattle.fills.specs.declared.FillRefusal.the-variants.{RowInUse}
+use Rattle.fills.specs.declared.FillAnswer.the-variants.{Refused as NotFilled}
 use Rattle.fills.specs.Fills.{fill}
 use Rattle.fills.proofs.Laws as fills
+use Rattle.region_fills.specs.declared.FillRefusal.the-variants.{RowInUse as TableRowInUse}
+use Rattle.region_fills.specs.declared.FillAnswer.the-variants.{Refused as NotTableFilled}
 use Rattle.region_fills.specs.Fills.{fill as tableFill}
 use Rattle.region_fills.proofs.Laws as region-fills
 use Rattle.runs.specs.declared.End.{End}
 use Rattle.runs.specs.declared.End.the-variants.{Off, Held, Empty, Raised}
 use Rattle.runs.specs.declared.RunAnswer.{RunAnswer}
+use Rattle.runs.specs.declared.RunRefusal.{RunRefusal}
 use Rattle.runs.specs.declared.RunRefusal.the-variants.{BadQueue}
 use Rattle.runs.specs.Running.{Out, rested, endOf, dueIn, run}
 use Rattle.runs.specs.Call.{queueGood, refused, done, call}
-use Rattle.runs.proofs.Calling.{goes-through}
+use Rattle.runs.proofs.Calling.{goes-through, Answered, no, yes, answered}
 use Rattle.runs.proofs.Turns.{run-rests}
+use Rattle.transactions.specs.declared.Transaction.{Transaction}
 use Rattle.events.specs.declared.Record.{Record}
-use Rattle.events.specs.declared.Checked.the-variants.{Accepted as events·Accepted}
-use Rattle.events.specs.Word.{rdBits, wrBits, log2sizeBits, outstanding, isFull, distance}
+use Rattle.events.specs.declared.Checked.{Checked}
+use Rattle.events.specs.declared.Checked.the-variants.{Accepted as events·Accepted, Refused as events·Refused}
+use Rattle.events.specs.Word.{rdBits, wrBits, log2sizeBits, outstanding, isEmpty, isFull, distance, oldest}
 use Rattle.events.specs.Stores.{flipped}
-use Rattle.events.specs.Events.{indexOf, recordOf, waiting}
+use Rattle.events.specs.Events.{indexOf, recordOf, recordAt, waiting, check}
 use Rattle.events.proofs.Checks as recorders
 use Rattle.events.proofs.Index.{flipped-keeps}
 use Rattle.events.proofs.Waiting.{stored-word}
 use Rattle.event_calls.specs.declared.WriteEnd.{WriteEnd}
 use Rattle.event_calls.specs.declared.WriteEnd.the-variants.{Stored, Dropped, Cut}
 use Rattle.event_calls.specs.declared.WriteAnswer.{WriteAnswer}
-use Rattle.event_calls.specs.declared.WriteAnswer.the-variants.{Done as DidWrite}
+use Rattle.event_calls.specs.declared.WriteAnswer.the-variants.{Refused as NotWritten, Done as DidWrite}
 use Rattle.event_calls.specs.declared.ReadRefusal.the-variants.{Empty as NoneWaits}
 use Rattle.event_calls.specs.declared.ReadAnswer.{ReadAnswer}
 use Rattle.event_calls.specs.declared.ReadAnswer.the-variants.{Refused as NotRead, Oldest}
@@ -56,7 +63,9 @@ use Rattle.event_calls.specs.declared.AcknowledgeAnswer.{AcknowledgeAnswer as E
 use Rattle.event_calls.specs.declared.AcknowledgeAnswer.the-variants.{Acknowledged as EventAcknowledged}
 use Rattle.event_calls.specs.Calls.{write, read}
 use Rattle.event_calls.specs.Told.{Ends}
-use Rattle.event_calls.proofs.Laws.{Wrote, refuses, drops, flips, flips-not, stores, stores-part, wrote, full-told, full-tells, room-whole}
+use Rattle.event_calls.proofs.Laws.{Wrote, refuses, drops, flips, flips-not, stores, stores-part, wrote, write-accepted, full-told, full-tells, room-whole}
+use Rattle.event_calls.proofs.Cases.{read-empty, read-stores}
+use Rattle.event_calls.proofs.Cases as event-cases
 use Rattle.event_calls.proofs.OneStore as one-store
 use Rattle.event_calls.proofs.Recorder.{stored-appends, dropped-outstanding, read-none, none-read}
 use Rattle.promises.proofs.Calls.{keeps-size}
@@ -64,7 +73,7 @@ use Rattle.promises.proofs.Accepted.{run-accepted}
 use Rattle.promises.proofs.RunCalls.{raised-then-held}
 use Rattle.promises.proofs.Ends.{rest-left}
 use Rattle.nights.specs.Calls.{World, Call, Doorbell, Enable, Acknowledge, Fill, Run, Translate, ClearPending, EventWrite, EventRead, EventAcknowledge, TableFill, Answer, memoryOf, inKept, inTable, inRecorder, inMemory, tried, Accepted}
-use Rattle.nights.specs.Repeats.{Refuses, Same, EndsFilled, EndsTableFilled, RunEnds, idle}
+use Rattle.nights.specs.Repeats.{Refuses, Same, EndsFilled, EndsTableFilled, RunEnds, idle, WasRefused}
 use Rattle.nights.proofs.Retries.{retries, image-of, recorder-of, memory-of}
 
 -- a doorbell stores the same word, an enable too, and a transaction is answered the same: no word changes
@@ -79,7 +88,7 @@ module _ (w : World) (k : ℕ) where
       let e = ap (inKept w) (control-calls.enable-again (w .kept) on) in
       record { told = λ j. ap (λ (o : Outcome World (Answer (Enable on))). o .answer) e; stays = λ j. ap (λ (o : Outcome World (Answer (Enable on))). o .memory) e }
 
-  pub transaction-again : (t : _) → Same (Translate t) (tried (Translate t) k w .answer) (tried (Translate t) k w .memory)
+  pub transaction-again : (t : Transaction) → Same (Translate t) (tried (Translate t) k w .answer) (tried (Translate t) k w .memory)
   transaction-again t = record { told = λ j. refl; stays = λ j. refl }
 
 -- an acknowledge gets 6, clearing gets 12: no word changes
@@ -108,7 +117,8 @@ module _ (w : World) (k row : ℕ) where
         where
           whole : 4 ≤ k → Refuses 8 (Fill row words) (tried (Fill row words) k w .memory)
           whole h =
-              let e = λ (j : ℕ). fills.finished-refuses (w .kept) n row words c k j words h in
+              let e : (j : ℕ) → fill (fill (w .kept) row words k .memory) row words j ≡ with (NotFilled RowInUse) (fill (w .kept) row words k .memory) =
+              λ j. fills.finished-refuses (w .kept) n row words c k j words h in
               record { told = λ j. rw (e j); stays = λ j. ap (λ (o : Outcome (List ℕ) (Answer (Fill row words))). inKept w o .memory) (e j) }
 
   pub table-fill-again : (words : Region) → EndsTableFilled (tried (TableFill row words) k w .answer)
@@ -122,7 +132,9 @@ module _ (w : World) (k row : ℕ) where
         where
           whole : 2 ≤ k → Refuses 8 (TableFill row words) (tried (TableFill row words) k w .memory)
           whole h =
-              let e = λ (j : ℕ). region-fills.finished-refuses (w .kept) (w .table) n row words c k j words h in
+              let t = tableFill (w .kept) (w .table) row words k .memory in
+              let e : (j : ℕ) → tableFill (w .kept) t row words j ≡ with (NotTableFilled TableRowInUse) t =
+              λ j. region-fills.finished-refuses (w .kept) (w .table) n row words c k j words h in
               record { told = λ j. rw (e j); stays = λ j. ap (λ (o : Outcome (List ℕ) (Answer (TableFill row words))). inTable w o .memory) (e j) }
 
 -- a Raised run ends Held, one that ended Off, Held or Empty ends so again: nothing is stored
@@ -181,6 +193,20 @@ event-acknowledge-again w k done =
     let e = one-store.acknowledge-again (w .recorder) done in
     record { told = λ j. rw e; stays = λ j. ap (λ (o : Outcome (List ℕ) EventAcknowledgeAnswer). inRecorder w o .memory) e }
 
+-- the first of those that wait is read
+reads-first : (m : List ℕ) (n : ℕ) → recorders.Accepts m n → (r : Record) (rest : List Record) → waiting m ≡ r ∷ rest → read m .answer ≡ Oldest r
+reads-first m n a r rest some = by-test (isEmpty (indexOf m)) refl
+  where
+    by-test : (b : Bool) → isEmpty (indexOf m) ≡ b → read m .answer ≡ Oldest r
+    by-test true t =
+        let none = none-read m n a (ap (λ (o : Outcome (List ℕ) ReadAnswer). o .answer) (read-empty m n (recorders.accepts m n a) t)) in
+        let z : _≡_ {A = ℕ} 0 1 = cc in absurd (omega arith)
+    by-test false t =
+        let q = ap (λ (o : Outcome (List ℕ) ReadAnswer). o .answer) (read-stores m n (recorders.accepts m n a) t) in
+        let first = one-store.read-oldest m (recordAt m (oldest (indexOf m))) q in
+        let same : recordAt m (oldest (indexOf m)) ≡ r = cc in
+        q ∙ ap Oldest same
+
 -- an event read gives the next record, and then memory changes; or 17, and then it does not
 module _ (w : World) (a : Accepted w) (k : ℕ) where
   -- the world that it left, and what waits in it
@@ -198,17 +224,153 @@ module _ (w : World) (a : Accepted w) (k : ℕ) where
         stays = λ j. ap (λ (l : List ℕ). record { kept = w .kept; table = w .table; recorder = l }) (one-store.read-refused-leaves (read-left .recorder) NoneWaits e);
       }
 
-  next-read : (r : Record) (rest : List Record) → waiting (read-left .recorder) ≡ r ∷ rest → read (read-left .recorder) .answer ≡ Oldest r
-  next-read r rest some = by-way (one-store.read-way (read-left .recorder))
-    where
-      by-way : one-store.ReadWay (read-left .recorder) → read (read-left .recorder) .answer ≡ Oldest r
-      by-way (one-store.stops why e) = absurd (none-stops why (ap (λ (o : Outcome (List ℕ) ReadAnswer). o .answer) e))
-        where
-          none-stops : (why : _) → read (read-left .recorder) .answer ≡ NotRead why → ⊥
-          none-stops why q = omega arith
-      by-way (one-store.stores s b t e) =
-          let q = ap (λ (o : Outcome (List ℕ) ReadAnswer). o .answer) e in
-          q ∙ ap Oldest (cc (one-store.read-oldest (read-left .recorder) _ q))
+  module _ (r : Record) (rest : List Record) (some : waiting (read-left .recorder) ≡ r ∷ rest) where
+    pub read-again-next : (j : ℕ) → tried EventRead j read-left .answer ≡ Oldest r
+    read-again-next j = reads-first (read-left .recorder) (a .slots) left-accepted r rest some
 
-  pub read-again-next : (r : Record) (rest : List Record) → waiting (read-left .recorder) ≡ r ∷ rest → (j : ℕ) → tried EventRead j read-left .answer ≡ Oldest r
-  read-again-next r rest some j = next-read r rest some
+    pub read-again-changes : (j : ℕ) → tried EventRead j read-left .memory ≡ read-left → ⊥
+    read-again-changes j same =
+        let shorter = one-store.read-oldest (read-left .recorder) r (read-again-next j) in
+        let e : waiting (read-left .recorder) ≡ r ∷ waiting (read-left .recorder) = shorter ∙ ap (λ (v : World). r ∷ waiting (v .recorder)) same in
+        omega (arith, ap length e)
+
+-- a Stored event write is stored again, so that the record waits twice and memory changes; or, if the ring is now full, it is dropped
+flipped-full : (v : ℕ) → isFull (flipped v) ≡ isFull v
+unfolding isFull distance
+flipped-full v = rw (flipped-keeps v rdBits tt, flipped-keeps v wrBits tt, flipped-keeps v log2sizeBits tt)
+
+module _ (w : World) (a : Accepted w) (k : ℕ) (bytes : List ℕ) where
+  abbrev write-left : World
+  write-left = tried (EventWrite bytes) k w .memory
+
+  write-left-accepted : recorders.Accepts (write-left .recorder) (a .slots)
+  write-left-accepted = write-accepted (w .recorder) bytes k (a .slots) (recorder-of w a)
+
+  module _ (room : isFull (indexOf (write-left .recorder)) ≡ false) (j : ℕ) (h : 5 ≤ j) where
+    pub stored-again : Ends Stored (tried (EventWrite bytes) j write-left .answer)
+    stored-again = rw (room-whole (write-left .recorder) bytes j (a .slots) write-left-accepted room h) refl
+
+    pub stored-twice : Ends Stored (tried (EventWrite bytes) k w .answer)
+        → waiting (tried (EventWrite bytes) j write-left .memory .recorder) ≡ (waiting (w .recorder) ++ (recordOf bytes ∷ [])) ++ (recordOf bytes ∷ [])
+    stored-twice end =
+        stored-appends (write-left .recorder) bytes j stored-again
+        ∙ ap (λ (q : List Record). q ++ (recordOf bytes ∷ [])) (stored-appends (w .recorder) bytes k end)
+
+    pub stored-again-changes : tried (EventWrite bytes) j write-left .memory ≡ write-left → ⊥
+    stored-again-changes same =
+        let longer = stored-appends (write-left .recorder) bytes j stored-again in
+        let e : waiting (write-left .recorder) ≡ waiting (write-left .recorder) ++ (recordOf bytes ∷ []) = ap (λ (v : World). waiting (v .recorder)) (sym same) ∙ longer in
+        omega (arith, simp length-append at (ap length e))
+
+  pub stored-then-dropped : isFull (indexOf (write-left .recorder)) ≡ true → (j : ℕ) → 1 ≤ j → Ends Dropped (tried (EventWrite bytes) j write-left .answer)
+  stored-then-dropped full j h = by-flag (outstanding (indexOf (write-left .recorder))) refl
+    where
+      by-flag : (b : Bool) → outstanding (indexOf (write-left .recorder)) ≡ b → Ends Dropped (tried (EventWrite bytes) j write-left .answer)
+      by-flag true t = rw (full-told (write-left .recorder) bytes j (a .slots) write-left-accepted full t) refl
+      by-flag false t = rw (full-tells (write-left .recorder) bytes j (a .slots) write-left-accepted full t (omega arith)) refl
+
+  -- a Dropped one is dropped, with no store: no word changes
+  still-full : Ends Dropped (tried (EventWrite bytes) k w .answer) → isFull (indexOf (write-left .recorder)) ≡ true
+  still-full end = by-case (wrote (w .recorder) bytes k)
+    where
+      by-case : Wrote (w .recorder) bytes k → isFull (indexOf (write-left .recorder)) ≡ true
+      by-case (refuses why e) = absurd (rw e at end)
+      by-case (drops n b full t e) = rw e full
+      by-case (flips n b full t z e) = rw (e, stored-word (w .recorder) n b (flipped (indexOf (w .recorder)))) (flipped-full (indexOf (w .recorder)) ∙ full)
+      by-case (flips-not n b full t z e) = let q : Cut ≡ Dropped = rw e at end in let z : _≡_ {A = ℕ} 0 1 = cc in absurd (omega arith)
+      by-case (stores n b room h e) = let q : Stored ≡ Dropped = rw e at end in let z : _≡_ {A = ℕ} 0 1 = cc in absurd (omega arith)
+      by-case (stores-part n b room h e) = let q : Cut ≡ Dropped = rw e at end in let z : _≡_ {A = ℕ} 0 1 = cc in absurd (omega arith)
+
+  pub dropped-again : Ends Dropped (tried (EventWrite bytes) k w .answer) → Same (EventWrite bytes) (DidWrite (record { end = Dropped; stores = 0 })) write-left
+  dropped-again end =
+      let m′ = write-left .recorder in
+      let e : (j : ℕ) → write m′ bytes j ≡ with (DidWrite (record { end = Dropped; stores = 0 })) m′ =
+      λ j. full-told m′ bytes j (a .slots) write-left-accepted (still-full end) (dropped-outstanding (w .recorder) bytes k end) in
+      record {
+        told = λ j. ap (λ (o : Outcome (List ℕ) WriteAnswer). o .answer) (e j);
+        stays = λ j. ap (λ (o : Outcome (List ℕ) WriteAnswer). inRecorder w o .memory) (e j);
+      }
+
+-- a refused call stored nothing, and is refused so again
+module _ (w : World) (k : ℕ) where
+  pub record StillRefused (c : Call) : Type 0 where
+    pub nothing : tried c k w .memory ≡ w
+    pub again : (j : ℕ) → tried c j w ≡ tried c k w
+
+  fill-refused : (row : ℕ) (words : Row) → WasRefused (Fill row words) (tried (Fill row words) k w .answer) → StillRefused (Fill row words)
+  fill-refused row words r = by-way (fills.which-way (w .kept) row words)
+    where
+      by-way : fills.Goes (w .kept) row words → StillRefused (Fill row words)
+      by-way (fills.stops why e) =
+          record { nothing = ap (λ (o : Outcome (List ℕ) (Answer (Fill row words))). inKept w o .memory) (e k); again = λ j. ap (inKept w) (e j ∙ sym (e k)) }
+      by-way (fills.stores n c) = absurd (r (rw (fills.carried (w .kept) n row words c k) refl))
+
+  table-fill-refused : (row : ℕ) (words : Region) → WasRefused (TableFill row words) (tried (TableFill row words) k w .answer) → StillRefused (TableFill row words)
+  table-fill-refused row words r = by-way (region-fills.which-way (w .kept) (w .table) row words)
+    where
+      by-way : region-fills.Goes (w .kept) (w .table) row words → StillRefused (TableFill row words)
+      by-way (region-fills.stops why e) =
+          record { nothing = ap (λ (o : Outcome (List ℕ) (Answer (TableFill row words))). inTable w o .memory) (e k); again = λ j. ap (inTable w) (e j ∙ sym (e k)) }
+      by-way (region-fills.stores n c) = absurd (r (rw (region-fills.carried (w .kept) (w .table) n row words c k) refl))
+
+  run-refused : (f : Features) (queue : List ℕ) → WasRefused (Run f queue) (tried (Run f queue) k w .answer) → StillRefused (Run f queue)
+  run-refused f queue r = by-answer (answered f queue (memoryOf w))
+    where
+      stops : (why : RunRefusal) → ((j : ℕ) → call f queue j (memoryOf w) ≡ refused why (memoryOf w)) → StillRefused (Run f queue)
+      stops why e =
+          record { nothing = ap (λ (o : Outcome Memory RunAnswer). inMemory w o .memory) (e k); again = λ j. ap (inMemory w) (e j ∙ sym (e k)) }
+
+      by-queue : (n : ℕ) → memory.Accepts (memoryOf w) n → (b : Bool) → queueGood queue (memoryOf w) ≡ b → StillRefused (Run f queue)
+      by-queue n a false q = stops BadQueue (λ j. goes-through f queue j (memoryOf w) n a ∙ rw q)
+      by-queue n a true q = absurd (r (rw (goes-through f queue k (memoryOf w) n a, q) refl))
+
+      by-answer : Answered f queue (memoryOf w) → StillRefused (Run f queue)
+      by-answer (no why e) = stops why e
+      by-answer (yes n a) = by-queue n a (queueGood queue (memoryOf w)) refl
+
+  write-refused : (bytes : List ℕ) → WasRefused (EventWrite bytes) (tried (EventWrite bytes) k w .answer) → StillRefused (EventWrite bytes)
+  write-refused bytes r = by-check (check (w .recorder)) refl
+    where
+      by-check : (c : Checked) → check (w .recorder) ≡ c → StillRefused (EventWrite bytes)
+      by-check (events·Refused why) e =
+          let stops : (j : ℕ) → write (w .recorder) bytes j ≡ with (NotWritten why) (w .recorder) = λ j. event-cases.write-refused (w .recorder) bytes j why e in
+          record { nothing = ap (λ (o : Outcome (List ℕ) WriteAnswer). inRecorder w o .memory) (stops k); again = λ j. ap (inRecorder w) (stops j ∙ sym (stops k)) }
+      by-check (events·Accepted n) e = absurd (r (rw (event-cases.write-due (w .recorder) bytes k n e) refl))
+
+  -- of a call of one store: by which way it went
+  pub refused-again : (c : Call) → WasRefused c (tried c k w .answer) → StillRefused c
+  refused-again (Doorbell wr) r = by-way (control-calls.doorbell-way (w .kept) wr)
+    where
+      by-way : control-calls.DoorbellWay (w .kept) wr → StillRefused (Doorbell wr)
+      by-way (control-calls.stops why e) = record { nothing = ap (λ (o : Outcome (List ℕ) (Answer (Doorbell wr))). inKept w o .memory) e; again = λ j. refl }
+      by-way (control-calls.stores n a t e) = absurd (r (rw e refl))
+  refused-again (Enable on) r = by-way (control-calls.enable-way (w .kept) on)
+    where
+      by-way : control-calls.EnableWay (w .kept) on → StillRefused (Enable on)
+      by-way (control-calls.stops why e) = record { nothing = ap (λ (o : Outcome (List ℕ) (Answer (Enable on))). inKept w o .memory) e; again = λ j. refl }
+      by-way (control-calls.stores n a t e) = absurd (r (rw e refl))
+  refused-again Acknowledge r = by-way (control-calls.acknowledge-way (w .kept))
+    where
+      by-way : control-calls.AcknowledgeWay (w .kept) → StillRefused Acknowledge
+      by-way (control-calls.stops why e) = record { nothing = ap (λ (o : Outcome (List ℕ) AcknowledgeAnswer). inKept w o .memory) e; again = λ j. refl }
+      by-way (control-calls.stores n a t e) = absurd (r (rw e refl))
+  refused-again (Fill row words) r = fill-refused row words r
+  refused-again (Run f queue) r = run-refused f queue r
+  refused-again (Translate t) r = record { nothing = refl; again = λ j. refl }
+  refused-again ClearPending r = by-way (control-calls.clear-way (w .kept))
+    where
+      by-way : control-calls.ClearWay (w .kept) → StillRefused ClearPending
+      by-way (control-calls.stops why e) = record { nothing = ap (λ (o : Outcome (List ℕ) ClearAnswer). inKept w o .memory) e; again = λ j. refl }
+      by-way (control-calls.stores n a t e) = absurd (r (rw e refl))
+  refused-again (EventWrite bytes) r = write-refused bytes r
+  refused-again EventRead r = by-way (one-store.read-way (w .recorder))
+    where
+      by-way : one-store.ReadWay (w .recorder) → StillRefused EventRead
+      by-way (one-store.stops why e) = record { nothing = ap (λ (o : Outcome (List ℕ) ReadAnswer). inRecorder w o .memory) e; again = λ j. refl }
+      by-way (one-store.stores n a t e) = absurd (r (rw e refl))
+  refused-again EventAcknowledge r = by-way (one-store.acknowledge-way (w .recorder))
+    where
+      by-way : one-store.AcknowledgeWay (w .recorder) → StillRefused EventAcknowledge
+      by-way (one-store.stops why e) = record { nothing = ap (λ (o : Outcome (List ℕ) EventAcknowledgeAnswer). inRecorder w o .memory) e; again = λ j. refl }
+      by-way (one-store.stores n a t e) = absurd (r (rw e refl))
+  refused-again (TableFill row words) r = table-fill-refused row words r

@@ -55,3 +55,7 @@ RunEnds end (DidRun ran) = ran .end ≡ end
 -- a run that ended so and did nothing
 abbrev pub idle : End → RunAnswer
 idle end = DidRun (record { end = end; consumed = 0; stores = 0; removed = 0; syncs = 0 })
+
+-- a call that was refused
+abbrev pub WasRefused : (c : Call) → Answer c → Type 0
+WasRefused c answer = numberOf c answer ≡ 0 → ⊥
