@@ -8,7 +8,7 @@ use Rattle.commands.specs.declared.Features.{Features}
 use Rattle.runs.specs.declared.Ran.{Ran}
 use Rattle.runs.specs.declared.RunAnswer.{RunAnswer}
 use Rattle.runs.specs.declared.RunAnswer.the-variants.{Done}
-use Rattle.nights.specs.Night.{Told, Night, uncut, performed}
+use Rattle.nights.specs.Night.{Night, uncut, performed}
 use Rattle.nights.specs.Cuts.{Finishes, again, Goes, OnTheWay, CutAt}
 use Rattle.nights.specs.Calls.{World, Call, Run, Answer, EndsCut, tried, unit, Accepted}
 use Rattle.nights.proofs.Night.{call-as-uncut, list-as-uncut, goes-somehow, cuts-finish, finished-one, on-the-way}
@@ -37,6 +37,10 @@ module _ (c : Call) (w : World) (a : Accepted w) where
   -- a try that is not cut is the call without cuts, whatever its allowance
   pub whatever-allowance : (k : ℕ) → (EndsCut c (tried c k w .answer) → ⊥) → tried c k w ≡ uncut unit c w
   whatever-allowance k last = retries c .whole k w a last
+
+  -- and enough is enough: that one is not cut
+  pub uncut-is-uncut : EndsCut c (uncut unit c w .answer) → ⊥
+  uncut-is-uncut cut = retries c .suffices w a cut
 
   -- so is a call that was cut any number of times, once it is finished: answer, with a run's counts summed, and world
   pub finished-as-uncut : (o : Outcome World (Answer c)) → Finishes unit c w o → o ≡ uncut unit c w

@@ -4,8 +4,8 @@ use mathlib.Core.Path.{_≡_, refl, ap, _∙_}
 use mathlib.Core.List.{List, [], _∷_}
 use Prim.Native.Nat.{ℕ}
 use Rattle.words.specs.Outcomes.{Outcome, with}
-use Rattle.nights.specs.Night.{Unit, Told, Night, before, uncut, performed}
-use Rattle.nights.specs.Cuts.{Finishes, done, again, Goes, none, next, Leaves, once, more, OnTheWay, here, later, CutAt, none as cut-none, one as cut-one}
+use Rattle.nights.specs.Night.{Unit, Night, before, uncut, performed}
+use Rattle.nights.specs.Cuts.{Finishes, done, again, Goes, none, next, Leaves, once, more, OnTheWay, here, later, CutAt, no-try, one-try}
 
 -- what is asked of a call, from worlds in P: every try leaves one of them; a try that is not cut ends as the call without cuts; so does
 -- a cut try with the call made again behind it; and enough is enough
@@ -43,8 +43,8 @@ module _ {C W : Type 0} {A : C → Type 0} (u : Unit C W A) (P : W → Type 0) (
       next (done (u .enough c w) (each c .suffices w p)) (goes-somehow cs (uncut u c w .memory) (each c .keeps (u .enough c w) w p))
 
   pub cuts-finish : (c : C) {ks : List ℕ} {w : W} → P w → CutAt u c ks w → Finishes u c w (uncut u c w)
-  cuts-finish c {w = w} p cut-none = done (u .enough c w) (each c .suffices w p)
-  cuts-finish c p (cut-one {k} {ks} {w} cut rest) =
+  cuts-finish c {w = w} p no-try = done (u .enough c w) (each c .suffices w p)
+  cuts-finish c p (one-try {k} {ks} {w} cut rest) =
       rw (← each c .resumes k w p cut) (again k cut (cuts-finish c (each c .keeps k w p) rest))
 
   -- every world on the way is one of P

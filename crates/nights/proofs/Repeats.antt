@@ -2,24 +2,22 @@
 -- finished it, and the call is made again in the world that it left, with the same inputs and any allowance.
 -- Assumes nothing.
 use mathlib.Core.Path.{_≡_, refl, sym, ap, _∙_}
-use mathlib.Core.Bool.{Bool, true, false, not}
+use mathlib.Core.Bool.{Bool, true, false}
 use mathlib.Core.List.{List, [], _∷_, _++_}
 use mathlib.Core.Logic.{⊎-elim}
-use Prim.Native.Nat.{ℕ, _+_, _*_, _^_, _≤_, _<_}
+use Prim.Native.Nat.{ℕ, _+_, _*_, _^_, _≤_}
 use native.Mathlib.Omega.{arith}
 use lib.Dec.{eqb}
-use lib.ListN.{length, set, length-append}
-use Rattle.words.specs.Choice.{pick}
+use lib.ListN.{length, length-append}
 use Rattle.words.specs.Outcomes.{Outcome, with}
-use Rattle.words.proofs.Truth.{less-or-not, decided}
+use Rattle.words.proofs.Truth.{less-or-not}
 use Rattle.rows.specs.declared.Row.{Row}
-use Rattle.control.specs.Control as control
 use Rattle.control.specs.declared.Rest.{Rest}
 use Rattle.control.specs.declared.Rest.the-variants.{Off as Rest·Off, Held as Rest·Held, Empty as Rest·Empty}
 use Rattle.commands.specs.declared.Features.{Features}
 use Rattle.due.specs.declared.Raising.{Raising}
 use Rattle.regions.specs.declared.Region.{Region}
-use Rattle.memory.specs.Memory.{Memory, controlOf}
+use Rattle.memory.specs.Memory.{Memory}
 use Rattle.memory.proofs.Laws as memory
 use Rattle.control_calls.specs.declared.AcknowledgeAnswer.{AcknowledgeAnswer}
 use Rattle.control_calls.specs.declared.ClearAnswer.{ClearAnswer}
@@ -38,7 +36,7 @@ use Rattle.runs.specs.declared.End.the-variants.{Off, Held, Empty, Raised}
 use Rattle.runs.specs.declared.RunAnswer.{RunAnswer}
 use Rattle.runs.specs.declared.RunRefusal.{RunRefusal}
 use Rattle.runs.specs.declared.RunRefusal.the-variants.{BadQueue}
-use Rattle.runs.specs.Running.{Out, rested, endOf, dueIn, run}
+use Rattle.runs.specs.Running.{rested, endOf, dueIn, run}
 use Rattle.runs.specs.Call.{queueGood, refused, done, call}
 use Rattle.runs.proofs.Calling.{goes-through, Answered, no, yes, answered}
 use Rattle.runs.proofs.Turns.{run-rests}
@@ -52,13 +50,12 @@ use Rattle.events.specs.Events.{indexOf, recordOf, recordAt, waiting, check}
 use Rattle.events.proofs.Checks as recorders
 use Rattle.events.proofs.Index.{flipped-keeps}
 use Rattle.events.proofs.Waiting.{stored-word}
-use Rattle.event_calls.specs.declared.WriteEnd.{WriteEnd}
 use Rattle.event_calls.specs.declared.WriteEnd.the-variants.{Stored, Dropped, Cut}
 use Rattle.event_calls.specs.declared.WriteAnswer.{WriteAnswer}
 use Rattle.event_calls.specs.declared.WriteAnswer.the-variants.{Refused as NotWritten, Done as DidWrite}
 use Rattle.event_calls.specs.declared.ReadRefusal.the-variants.{Empty as NoneWaits}
 use Rattle.event_calls.specs.declared.ReadAnswer.{ReadAnswer}
-use Rattle.event_calls.specs.declared.ReadAnswer.the-variants.{Refused as NotRead, Oldest}
+use Rattle.event_calls.specs.declared.ReadAnswer.the-variants.{Oldest}
 use Rattle.event_calls.specs.declared.AcknowledgeAnswer.{AcknowledgeAnswer as EventAcknowledgeAnswer}
 use Rattle.event_calls.specs.declared.AcknowledgeAnswer.the-variants.{Acknowledged as EventAcknowledged}
 use Rattle.event_calls.specs.Calls.{write, read}
@@ -74,7 +71,7 @@ use Rattle.promises.proofs.RunCalls.{raised-then-held}
 use Rattle.promises.proofs.Ends.{rest-left}
 use Rattle.nights.specs.Calls.{World, Call, Doorbell, Enable, Acknowledge, Fill, Run, Translate, ClearPending, EventWrite, EventRead, EventAcknowledge, TableFill, Answer, memoryOf, inKept, inTable, inRecorder, inMemory, tried, Accepted}
 use Rattle.nights.specs.Repeats.{Refuses, Same, EndsFilled, EndsTableFilled, RunEnds, idle, WasRefused}
-use Rattle.nights.proofs.Retries.{retries, image-of, recorder-of, memory-of}
+use Rattle.nights.proofs.Retries.{image-of, recorder-of, memory-of}
 
 -- a doorbell stores the same word, an enable too, and a transaction is answered the same: no word changes
 module _ (w : World) (k : ℕ) where

@@ -6,7 +6,6 @@ use mathlib.Core.List.{List, [], _∷_}
 use Prim.Native.Nat.{ℕ, _+_, _≤_}
 use native.Mathlib.Omega.{arith}
 use Rattle.words.specs.Choice.{pick}
-use Rattle.words.specs.Outcomes.{Outcome, with}
 use Rattle.rows.specs.declared.Row.{Row}
 use Rattle.control.specs.Control as control
 use Rattle.commands.specs.declared.Features.{Features}
@@ -30,16 +29,15 @@ use Rattle.runs.specs.declared.RunRefusal.the-variants.{BadQueue}
 use Rattle.runs.specs.Running.{run}
 use Rattle.runs.specs.Call.{queueGood, refused, done, call}
 use Rattle.runs.proofs.Calling.{goes-through}
-use Rattle.events.specs.Events.{indexOf}
 use Rattle.event_calls.specs.declared.WriteEnd.the-variants.{Stored, Dropped, Cut}
 use Rattle.event_calls.specs.Calls.{write}
-use Rattle.event_calls.specs.Told.{Ends, rewritten, WritesCut, none as none-written, one as one-written}
+use Rattle.event_calls.specs.Told.{Ends, rewritten, none as none-written, one as one-written}
 use Rattle.event_calls.proofs.Laws.{Wrote, refuses, drops, flips, flips-not, stores, stores-part, wrote, write-accepted}
 use Rattle.event_calls.proofs.OneStore.{read-accepted, acknowledge-accepted as event-acknowledge-accepted}
 use Rattle.event_calls.proofs.Cuts.{write-as-uncut}
 use Rattle.promises.specs.Filling as filling
 use Rattle.promises.proofs.Filling as filling-as-uncut
-use Rattle.promises.specs.Calls.{_and_, calls, EndsCut, CallsCut, none as none-called, one as one-called}
+use Rattle.promises.specs.Calls.{_and_, calls, EndsCut, none as none-called, one as one-called}
 use Rattle.promises.proofs.Calls.{call-as-uncut}
 use Rattle.promises.proofs.RunCalls.{call-accepted}
 use Rattle.promises.proofs.Potential.{enough-allowance}

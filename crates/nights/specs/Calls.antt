@@ -27,6 +27,7 @@ use Rattle.region_fills.specs.declared.FillAnswer.{FillAnswer as TableFillAnswe
 use Rattle.region_fills.specs.Fills as region-fills
 use Rattle.region_fills.specs.Cuts as region-cuts
 use Rattle.runs.specs.declared.RunAnswer.{RunAnswer}
+use Rattle.runs.specs.declared.RunAnswer.the-variants.{Refused as NotRun, Done as DidRun}
 use Rattle.runs.specs.Call as runs
 use Rattle.transactions.specs.declared.Transaction.{Transaction}
 use Rattle.transactions.specs.declared.TransactionAnswer.{TransactionAnswer}
@@ -146,6 +147,11 @@ joined (EventWrite bytes) first rest = rest
 joined EventRead first rest = rest
 joined EventAcknowledge first rest = rest
 joined (TableFill row words) first rest = rest
+
+-- the stores that a run made
+abbrev pub storesOf : RunAnswer → ℕ
+storesOf (NotRun why) = 0
+storesOf (DidRun ran) = ran .stores
 
 -- used rows of both tables, and waiting commands
 abbrev pub ahead : World → ℕ

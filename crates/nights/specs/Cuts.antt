@@ -1,7 +1,6 @@
 -- Document 02, T-14: a list of calls with cuts anywhere. A call that ends Cut is made again, before anything else, with the same
 -- inputs and any allowance, until it does not.
 -- Assumes nothing.
-use mathlib.Core.Path.{_≡_}
 use mathlib.Core.List.{List, [], _∷_}
 use Prim.Native.Nat.{ℕ, _+_, _≤_, _<_}
 use Rattle.words.specs.Outcomes.{Outcome, with}
@@ -37,13 +36,13 @@ module _ {C W : Type 0} {A : C → Type 0} (u : Unit C W A) where
 
   -- tries with these allowances, each of which ended Cut
   pub data CutAt (c : C) : List ℕ → W → Type 0 where
-    none : {w : W} → CutAt c [] w
-    one : {k : ℕ} {ks : List ℕ} {w : W} → u .EndsCut c (u .tried c k w .answer) → CutAt c ks (u .tried c k w .memory) → CutAt c (k ∷ ks) w
+    no-try : {w : W} → CutAt c [] w
+    one-try : {k : ℕ} {ks : List ℕ} {w : W} → u .EndsCut c (u .tried c k w .answer) → CutAt c ks (u .tried c k w .memory) → CutAt c (k ∷ ks) w
 
 -- each of them allows a store; and how many they allow together
 pub data Positive : List ℕ → Type 0 where
-  none : Positive []
-  one : {k : ℕ} {ks : List ℕ} → 1 ≤ k → Positive ks → Positive (k ∷ ks)
+  no-allowance : Positive []
+  one-allowance : {k : ℕ} {ks : List ℕ} → 1 ≤ k → Positive ks → Positive (k ∷ ks)
 
 unfoldable pub total : List ℕ → ℕ
 total [] = 0

@@ -2,7 +2,7 @@
 -- Assumes nothing.
 use mathlib.Core.List.{List, [], _∷_}
 use Prim.Native.Nat.{ℕ}
-use Rattle.words.specs.Outcomes.{Outcome, with}
+use Rattle.words.specs.Outcomes.{Outcome}
 
 -- calls C, each with its inputs but the allowance, on a world W; a call c answers A c
 pub record Unit (C W : Type 0) (A : C → Type 0) : Type 1 where

@@ -1,7 +1,6 @@
 -- Document 02, T-14: what repeating a finished call does.
 -- Assumes nothing.
 use mathlib.Core.Path.{_≡_}
-use mathlib.Core.List.{List}
 use Prim.Native.Nat.{ℕ}
 use Rattle.fills.specs.declared.FillEnd.the-variants.{Filled}
 use Rattle.fills.specs.declared.FillAnswer.{FillAnswer}
