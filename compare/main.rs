@@ -101,7 +101,12 @@ fn compare(seed: u64, wrong: Option<Wrong>) -> ExitCode {
     watchdog::start(seed);
     let writes = wrong.as_ref().is_some_and(Wrong::writes);
     let checks = wrong.as_ref().is_some_and(Wrong::checks);
+    let cut = wrong.as_ref().is_some_and(Wrong::cut);
     let mut checker = Checker::new(seed, wrong);
+    // Whoever is called again wrongly has to be caught by the nights.
+    if cut {
+        phases::nights::nights(&mut checker);
+    }
     phases::cases::cases(&mut checker);
     phases::reasons::cases::cases(&mut checker);
     phases::pending::cases::cases(&mut checker);
@@ -144,6 +149,9 @@ fn compare(seed: u64, wrong: Option<Wrong>) -> ExitCode {
     phases::single::damaged(&mut checker);
     phases::cuts::cuts(&mut checker);
     phases::sequences::sequences(&mut checker);
+    if !cut {
+        phases::nights::nights(&mut checker);
+    }
 
     println!();
     let missing = checker.tally.print();
