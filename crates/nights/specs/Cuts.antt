@@ -1,5 +1,5 @@
--- Document 02, T-14: a list of calls with cuts anywhere. A call that ends Cut is made again, before anything else, with the same
--- inputs and any allowance, until it does not.
+-- Document 02, T-14: a list of calls with cuts anywhere. A call that was cut comes again at once, its inputs as before and its allowance
+-- whatever one likes.
 -- Assumes nothing.
 use mathlib.Core.List.{List, [], _∷_}
 use Prim.Native.Nat.{ℕ, _+_, _≤_, _<_}
