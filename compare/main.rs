@@ -6,7 +6,9 @@
 //! often, `phases/` decides which calls are made, and every call is made on both
 //! sides: the returned number, the eight answer words, each word of the kept
 //! memory and of the second table and each byte of a slot or queue that is written
-//! have to be the same. At the end a table says what was compared.
+//! have to be the same. Only the nights with cuts (`phases/nights/`) are played by the unit
+//! alone: they have to end as the same nights without cuts did, which are compared as all
+//! calls are. At the end a table says what was compared.
 //!
 //! Build, with LIB the folder that holds the unit's static library libNAME.a:
 //!
