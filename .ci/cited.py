@@ -1,4 +1,4 @@
-"""cited.py FILE..: every citation in these Markdown files is there, and every theorem of the crate promises is cited.
+"""cited.py FILE..: every citation in these Markdown files is there, and every theorem of the crates promises and nights is cited.
 
 A citation is whatever stands between backquotes. It is a path below crates/ or, failing that, below the repository,
 and may name something in that file after a colon:
@@ -75,9 +75,10 @@ def main(files):
         for number, citation, why in missing('.', document):
             print('%s:%d: %s: %s' % (file, number, citation, why))
             wrong += 1
-    for theorem in uncited('.', 'promises/proofs', documents):
-        print('%s: cited nowhere' % theorem)
-        wrong += 1
+    for folder in ('promises/proofs', 'nights/proofs'):
+        for theorem in uncited('.', folder, documents):
+            print('%s: cited nowhere' % theorem)
+            wrong += 1
     if count == 0:
         print('no citation at all')
         return 1

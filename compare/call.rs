@@ -131,8 +131,12 @@ pub struct Reply {
 }
 
 /// The run's ends as the C interface numbers them.
+pub const HELD: u64 = 1;
 pub const RAISED: u64 = 3;
 pub const CUT: u64 = 4;
+
+/// A fill's end, of either table, unless it was whole.
+pub const FILL_CUT: u64 = 1;
 
 /// What a check of a batch says.
 pub const YES: u64 = 0;

@@ -77,15 +77,7 @@ impl Checker {
     ) -> Reply {
         let before = kept.to_vec();
         self.table = table.to_vec();
-        let dirt: [u64; 8] = std::array::from_fn(|_| self.garbage.next());
-        let mut answer = Lent::new(&dirt, &mut self.garbage);
-        let garbage = &mut self.garbage;
-        let (number, read_kept) = on_unit(call, (&mut lent, &mut answer), &self.wrong, garbage);
-        watchdog::returned();
-        let theirs = Reply {
-            number,
-            answer: std::array::from_fn(|place| answer.inner()[place]),
-        };
+        let (theirs, inside) = self.on_unit(&mut lent, call);
         let ours = modelled::perform(call, (kept, table, bytes), &mut self.tally);
         self.tally.upper.count(&before, &call, &ours, kept);
         self.tally.doubles.count(&before, &call, &ours);
@@ -103,8 +95,8 @@ impl Checker {
         if theirs != ours || !words || lent.bytes() != bytes {
             stop(&scene, "unit and model differ");
         }
-        if !read_kept || !lent.margins_kept() || !answer.margins_kept() {
-            stop(&scene, "the unit stored outside the words lent for storing");
+        if !inside {
+            stop(&scene, OUTSIDE);
         }
         let tables = (&self.table[..], &*table);
         let written = (&self.bytes[..], &*bytes);
@@ -114,6 +106,33 @@ impl Checker {
             stop(&scene, law);
         }
         ours
+    }
+
+    /// One call on the unit alone, for what it has to do by its own earlier calls.
+    pub fn alone(&mut self, kept: &mut [u64], table: &mut [u64], call: Call) -> Reply {
+        self.bytes.clear();
+        self.table = table.to_vec();
+        let mut lent = Memory::new(kept, table, &mut self.garbage);
+        let (reply, inside) = self.on_unit(&mut lent, call);
+        self.insist(inside, OUTSIDE, kept, call, (reply, lent.inner()));
+        kept.copy_from_slice(lent.inner());
+        table.copy_from_slice(lent.table());
+        reply
+    }
+
+    /// The unit's reply, and whether it stored to nothing but what is lent for storing.
+    fn on_unit(&mut self, lent: &mut Memory, call: Call) -> (Reply, bool) {
+        let dirt: [u64; 8] = std::array::from_fn(|_| self.garbage.next());
+        let mut answer = Lent::new(&dirt, &mut self.garbage);
+        let garbage = &mut self.garbage;
+        let (number, read_kept) = on_unit(call, (lent, &mut answer), &self.wrong, garbage);
+        watchdog::returned();
+        let reply = Reply {
+            number,
+            answer: std::array::from_fn(|place| answer.inner()[place]),
+        };
+        let inside = read_kept && lent.margins_kept() && answer.margins_kept();
+        (reply, inside)
     }
 
     /// Stops the program unless a law over several calls holds; `call` is one of
@@ -154,6 +173,8 @@ impl Checker {
         }
     }
 }
+
+const OUTSIDE: &str = "the unit stored outside the words lent for storing";
 
 /// The unit's number, and whether it left alone what it only reads: a run's queue, the
 /// record, the words of commands, batches. It is lent a copy of them, for the model has to

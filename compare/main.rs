@@ -6,7 +6,9 @@
 //! often, `phases/` decides which calls are made, and every call is made on both
 //! sides: the returned number, the eight answer words, each word of the kept
 //! memory and of the second table and each byte of a slot or queue that is written
-//! have to be the same. At the end a table says what was compared.
+//! have to be the same. Only the nights with cuts (`phases/nights/`) are played by the unit
+//! alone: they have to end as the same nights without cuts did, which are compared as all
+//! calls are. At the end a table says what was compared.
 //!
 //! Build, with LIB the folder that holds the unit's static library libNAME.a:
 //!
@@ -101,7 +103,12 @@ fn compare(seed: u64, wrong: Option<Wrong>) -> ExitCode {
     watchdog::start(seed);
     let writes = wrong.as_ref().is_some_and(Wrong::writes);
     let checks = wrong.as_ref().is_some_and(Wrong::checks);
+    let cut = wrong.as_ref().is_some_and(Wrong::cut);
     let mut checker = Checker::new(seed, wrong);
+    // Whoever is called again wrongly has to be caught by the nights.
+    if cut {
+        phases::nights::nights(&mut checker);
+    }
     phases::cases::cases(&mut checker);
     phases::reasons::cases::cases(&mut checker);
     phases::pending::cases::cases(&mut checker);
@@ -144,6 +151,9 @@ fn compare(seed: u64, wrong: Option<Wrong>) -> ExitCode {
     phases::single::damaged(&mut checker);
     phases::cuts::cuts(&mut checker);
     phases::sequences::sequences(&mut checker);
+    if !cut {
+        phases::nights::nights(&mut checker);
+    }
 
     println!();
     let missing = checker.tally.print();

@@ -5,6 +5,7 @@ mod commands;
 mod doubles;
 mod events;
 mod hyp;
+mod nights;
 mod pending;
 mod ranges;
 mod regions;
@@ -17,6 +18,7 @@ use commands::Commands;
 use doubles::Doubles;
 use events::Events;
 use hyp::Hyp;
+use nights::Nights;
 use pending::Pending;
 use ranges::Ranges;
 use regions::Regions;
@@ -59,6 +61,7 @@ pub struct Tally {
     pub events: Events,
     pub writer: Writer,
     pub check: Check,
+    pub nights: Nights,
     configs: [u64; 8],
     config_hits: [u64; 8],
 }
@@ -115,6 +118,7 @@ impl Tally {
         self.events.print(&mut table);
         self.writer.print(&mut table);
         self.check.print(&mut table);
+        self.nights.print(&mut table);
         table.missing
     }
 

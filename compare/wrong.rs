@@ -7,6 +7,7 @@ mod doubles;
 mod events;
 mod forms;
 mod hyp;
+mod nights;
 mod passed;
 mod pending;
 mod ranges;
@@ -19,6 +20,7 @@ mod writer;
 use crate::call::{Call, FIRST_EVENT, NAMES, NUMBERS};
 use crate::lent::{Lent, Memory};
 use crate::limits::{words, REGIONS, ROWS, SLOTS};
+use crate::phases::nights::LAWS;
 use crate::unit;
 use std::process::Command;
 use std::sync::atomic::{AtomicUsize, Ordering};
@@ -68,6 +70,8 @@ enum Fault {
     Check(check::Fault),
     /// A call goes past some rows.
     Passed(passed::Fault),
+    /// A call that is cut or made again does something else.
+    Nights(nights::Fault),
 }
 
 pub struct Wrong {
@@ -159,6 +163,9 @@ fn requests() -> Vec<Wrong> {
     for (name, fault) in passed::all() {
         add(name, Fault::Passed(fault));
     }
+    for (name, fault) in nights::all() {
+        add(name, Fault::Nights(fault));
+    }
     all
 }
 
@@ -209,7 +216,9 @@ fn caught(wrong: &Wrong) -> bool {
     let ran = Command::new(program).args(["wrong", &wrong.name]).output();
     let ran = ran.expect("a run of the program");
     let told = String::from_utf8_lossy(&ran.stdout);
-    ran.status.code() == Some(1) && told.contains("unit and model differ")
+    let differs = told.contains("unit and model differ");
+    let broken = wrong.cut() && LAWS.iter().any(|law| told.contains(law));
+    ran.status.code() == Some(1) && (differs || broken)
 }
 
 impl Wrong {
@@ -223,6 +232,11 @@ impl Wrong {
         matches!(self.fault, Fault::Check(_))
     }
 
+    /// Whether it is wrong where a call is cut or made again.
+    pub fn cut(&self) -> bool {
+        matches!(self.fault, Fault::Nights(_))
+    }
+
     /// Makes the call as `unit::perform` does, with the fault.
     pub fn perform(&self, call: Call, kept: &mut Memory, answer: &mut Lent) -> u64 {
         match self.fault {
@@ -234,6 +248,7 @@ impl Wrong {
             Fault::Writer(fault) => return fault.perform(call, kept, answer),
             Fault::Check(fault) => return fault.perform(call, kept, answer),
             Fault::Passed(fault) => return fault.perform(call, kept, answer),
+            Fault::Nights(fault) => return fault.perform(call, kept, answer),
             _ => (),
         }
         let before = kept.copy();

@@ -11,6 +11,7 @@ pub mod events;
 pub mod formats;
 pub mod hyp;
 pub mod limits;
+pub mod nights;
 pub mod pending;
 pub mod ranges;
 pub mod reasons;

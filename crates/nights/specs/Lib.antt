@@ -1,0 +1,4 @@
+pub mod Night
+pub mod Cuts
+pub mod Calls
+pub mod Repeats
