@@ -49,7 +49,7 @@ def print_without_scope(results):
         "The plain version tells such a command before it looks at rows, so its own time for them is no measure of that; "
         "in its place stands its time for a command by address over as many rows, of each of which it asks.\n"
     )
-    head(["goal", "case", "rows", "at most", "of plain's time by address", "reached", "of plain's own time"], 2)
+    head(["goal", "case", "rows", "at most", "of plain's time by address", "by that measure", "of plain's own time"], 2)
     for letter, other, goal in WITHOUT_SCOPE:
         times = results.times[letter]
         share = times.share_of(results.times[other])
