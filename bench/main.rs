@@ -66,11 +66,12 @@ fn verified(cases: &[Case]) -> Result<Vec<Totals>, String> {
 
 fn describe(cases: &[Case]) -> Result<(), String> {
     let seen = verified(cases)?;
-    println!("case\twhat\tper\tcalls\tparts\trows\tremoved");
+    println!("case\twhat\tper\tcall\tcalls\tparts\trows\tremoved");
     for (case, totals) in cases.iter().zip(&seen) {
         let (calls, parts, rows) = (case.calls(), case.parts(), case.lent.kept.len() / 4);
-        let (letter, what, per, removed) = (case.letter, case.what, case.per(), totals.removed);
-        println!("{letter}\t{what}\t{per}\t{calls}\t{parts}\t{rows}\t{removed}");
+        let (letter, what, removed) = (case.letter, case.what, totals.removed);
+        let (per, call) = (case.per(), case.call());
+        println!("{letter}\t{what}\t{per}\t{call}\t{calls}\t{parts}\t{rows}\t{removed}");
     }
     Ok(())
 }

@@ -1,12 +1,14 @@
-//! A table of 32 streams, each with its STE, CD, stage 1 and stage 2 row.
+//! A table of streams, each with its STE, CD, stage 1 and stage 2 row.
 
-use super::{memory, Case, Lent, Per, Work, GUEST_FEATURES, USUAL};
+use super::{memory, Case, Lent, Per, Size, Work, GUEST_FEATURES};
 use super::{STAGE1_PAYLOAD, STAGE2_PAYLOAD, STE_PAYLOAD};
 use crate::call::Asked;
 use crate::model::run::End;
 use crate::rows::{cd, ste, Reach, Words, STAGE1, STAGE2};
 
-const CHAINS: u64 = USUAL.rows as u64 / 4;
+fn chains(size: Size) -> u64 {
+    size.rows as u64 / 4
+}
 
 fn stream(number: u64) -> u64 {
     8 * number
@@ -42,19 +44,19 @@ fn chain(number: u64) -> [Words; 4] {
     ]
 }
 
-fn rows() -> Vec<Words> {
-    (0..CHAINS).flat_map(chain).collect()
+fn rows(size: Size) -> Vec<Words> {
+    (0..chains(size)).flat_map(chain).collect()
 }
 
 /// A run with the queue off: nothing but the check that every call starts with.
-pub fn check() -> Case {
+pub fn check(letter: &'static str, what: &'static str, size: Size) -> Case {
     Case {
-        letter: "e",
-        what: "the check of the image alone (a run that ends Off)",
-        size: USUAL,
-        lent: Lent::without_regions(memory(USUAL, 0, &rows())),
+        letter,
+        what,
+        size,
+        lent: Lent::without_regions(memory(size, 0, &rows(size))),
         work: Work::Runs {
-            queues: vec![vec![0; 16 * USUAL.commands()]],
+            queues: vec![vec![0; 16 * size.commands()]],
             features: GUEST_FEATURES,
         },
         per: Per::Call,
@@ -64,13 +66,13 @@ pub fn check() -> Case {
 }
 
 /// The last stream's rows stand last, so that each search goes through the table.
-pub fn transaction() -> Case {
-    let last = CHAINS - 1;
+pub fn transaction(letter: &'static str, what: &'static str, size: Size) -> Case {
+    let last = chains(size) - 1;
     Case {
-        letter: "f",
-        what: "a transaction of both stages, its rows last",
-        size: USUAL,
-        lent: Lent::without_regions(memory(USUAL, 0, &rows())),
+        letter,
+        what,
+        size,
+        lent: Lent::without_regions(memory(size, 0, &rows(size))),
         work: Work::Translate(Asked {
             stream: stream(last) as u32,
             substream: 0,

@@ -1,13 +1,14 @@
 //! What Linux guests sent (crates/verdicts/data), a queueful at a time, each time
 //! over the same full table.
 
-use super::{bytes, memory, shuffle, Case, Command, Lent, Per, Work, ENABLED, USUAL};
+use super::{bytes, memory, shuffle, Case, Command, Lent, Per, Size, Work, ENABLED};
 use super::{STAGE1_PAYLOAD, STE_PAYLOAD};
 use crate::model::run::End;
 use crate::rows::{cd, ste, Reach, Words, STAGE1};
 use std::collections::{BTreeMap, BTreeSet};
 
 /// A guest's commands, and the features that its SMMU had.
+#[derive(Clone, Copy)]
 pub struct Guest {
     sent: &'static [u8],
     features: u64,
@@ -38,7 +39,7 @@ fn commands(sent: &[u8]) -> Vec<Command> {
 
 /// Rows that this guest could have had: an STE and a CD row for each stream that
 /// it names, and the pages that it invalidates most often.
-fn rows(commands: &[Command]) -> Vec<Words> {
+fn rows(size: Size, commands: &[Command]) -> Vec<Words> {
     let mut streams = BTreeSet::new();
     let mut pages = BTreeMap::new();
     for &(low, high) in commands {
@@ -66,21 +67,21 @@ fn rows(commands: &[Command]) -> Vec<Words> {
         };
         rows.push(reach.page(address, STAGE1_PAYLOAD));
     }
-    rows.truncate(USUAL.rows);
+    rows.truncate(size.rows);
     shuffle(8, &mut rows);
     rows
 }
 
-pub fn case(letter: &'static str, what: &'static str, guest: Guest) -> Case {
+pub fn case(letter: &'static str, what: &'static str, size: Size, guest: Guest) -> Case {
     let commands = commands(guest.sent);
-    let queues = commands.chunks_exact(USUAL.commands());
+    let queues = commands.chunks_exact(size.commands());
     Case {
         letter,
         what,
-        size: USUAL,
-        lent: Lent::without_regions(memory(USUAL, ENABLED, &rows(&commands))),
+        size,
+        lent: Lent::without_regions(memory(size, ENABLED, &rows(size, &commands))),
         work: Work::Runs {
-            queues: queues.map(|queue| bytes(USUAL, queue)).collect(),
+            queues: queues.map(|queue| bytes(size, queue)).collect(),
             features: guest.features,
         },
         per: Per::Command,

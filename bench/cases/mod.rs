@@ -50,6 +50,8 @@ impl Size {
 pub const GUEST_FEATURES: u64 = 15;
 /// For commands with a range.
 pub const RIL: u64 = 1 << 5;
+/// For commands about the second table.
+pub const DPT: u64 = 1 << 6;
 /// CMDQEN.
 pub const ENABLED: u64 = 1 << 49;
 
@@ -157,6 +159,16 @@ impl Case {
         (each * self.calls()) as u64
     }
 
+    /// The call that is counted.
+    pub fn call(&self) -> &'static str {
+        match self.work {
+            Work::Runs { .. } => "run",
+            Work::Check { .. } => "check_batch",
+            Work::Translate(_) => "translate",
+            Work::Fill(..) => "fill",
+        }
+    }
+
     pub fn per(&self) -> &'static str {
         match self.per {
             Per::Command => "command",
@@ -166,43 +178,62 @@ impl Case {
 }
 
 pub fn all() -> Vec<Case> {
+    let mut cases = runs();
+    cases.extend(others());
+    cases
+}
+
+/// Runs over full queues.
+fn runs() -> Vec<Case> {
+    let ril = linux::WITH_RANGES;
+    let single = linux::WITHOUT_RANGES;
     vec![
         mixed::case("a", "mixed commands, every second removes a row", USUAL),
+        mixed::case("g", "as a at the limits, every fourth does", LARGEST),
         pages::by_address("b", "commands by address, none removes a row", USUAL),
-        pages::without_scope("c", "commands without a scope", USUAL),
-        linux::case("d", "a Linux guest's commands", linux::WITHOUT_RANGES),
-        chains::check(),
-        chains::transaction(),
-        mixed::case(
-            "g",
-            "as a at the limits, every fourth removes a row",
-            LARGEST,
-        ),
         pages::by_address("h", "as b at the limits", LARGEST),
-        pages::fill(),
         pages::by_range("j", "as b, each command with a range of 16 pages", USUAL),
-        linux::case(
-            "k",
-            "a Linux guest's commands, with ranges",
-            linux::WITH_RANGES,
+        pages::by_range("q", "as j at the limits", LARGEST),
+        linux::case("d", "a Linux guest's commands", USUAL, single),
+        linux::case("r", "as d at the limits", LARGEST, single),
+        linux::case("k", "a Linux guest's commands, with ranges", USUAL, ril),
+        linux::case("s", "as k at the limits", LARGEST, ril),
+        pages::without_scope("c", "commands without a scope", USUAL),
+        pages::without_scope("p", "as c at the limits", LARGEST),
+        regions::full("m", "as b, beside a full second table", by_address(USUAL)),
+        regions::about(
+            "y",
+            "commands by region, none removes one",
+            by_address(USUAL),
         ),
-        regions::full("l", "as e, beside a full second table", chains::check()),
-        regions::full(
-            "m",
-            "as b, beside a full second table",
-            pages::by_address("b", "", USUAL),
-        ),
+    ]
+}
+
+fn by_address(size: Size) -> Case {
+    pages::by_address("", "", size)
+}
+
+/// The check of the image, and calls that carry out no commands.
+fn others() -> Vec<Case> {
+    let check = "the check of the image alone (a run that ends Off)";
+    let off = chains::check("", "", USUAL);
+    let mixed = |size| mixed::case("", "", size);
+    vec![
+        chains::check("e", check, USUAL),
+        chains::check("t", "as e at the limits", LARGEST),
+        regions::full("l", "as e, beside a full second table", off),
+        chains::transaction("f", "a transaction of both stages, its rows last", USUAL),
+        chains::transaction("u", "as f at the limits", LARGEST),
+        pages::fill("v", "a fill of a page that no row doubles", USUAL),
+        pages::fill("i", "as v at the limits", LARGEST),
+        batches::check("w", "a check of b's commands, reordered", by_address(USUAL)),
         batches::check(
             "n",
-            "a check of h's commands in another order",
-            pages::by_address("h", "", LARGEST),
+            "a check of h's commands, reordered",
+            by_address(LARGEST),
         ),
-        batches::check(
-            "o",
-            "a check of g's commands in another order",
-            mixed::case("g", "", LARGEST),
-        ),
-        pages::without_scope("p", "as c at the limits", LARGEST),
+        batches::check("x", "a check of a's commands, reordered", mixed(USUAL)),
+        batches::check("o", "a check of g's commands, reordered", mixed(LARGEST)),
     ]
 }
 

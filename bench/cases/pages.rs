@@ -2,7 +2,7 @@
 //! command removes any.
 
 use super::{bytes, memory, shuffle, Case, Command, Lent, Per, Size, Work};
-use super::{GUEST_FEATURES, LARGEST, RIL, STAGE1_PAYLOAD, STAGE2_PAYLOAD};
+use super::{GUEST_FEATURES, RIL, STAGE1_PAYLOAD, STAGE2_PAYLOAD};
 use crate::random::Random;
 use crate::rows::{Reach, Words, STAGE1, STAGE2};
 
@@ -90,7 +90,7 @@ pub fn without_scope(letter: &'static str, what: &'static str, size: Size) -> Ca
 }
 
 /// A page that no row doubles, into the last row: a fill looks at all of them.
-pub fn fill() -> Case {
+pub fn fill(letter: &'static str, what: &'static str, size: Size) -> Case {
     let mut random = Random::new(8);
     let reach = Reach {
         kind: STAGE1,
@@ -100,14 +100,14 @@ pub fn fill() -> Case {
         span: 12,
         page: page(&mut random, 1),
     };
-    let last = LARGEST.rows - 1;
-    let mut table = rows(LARGEST);
+    let last = size.rows - 1;
+    let mut table = rows(size);
     table[last] = [0; 4];
     Case {
-        letter: "i",
-        what: "a fill at the limits, of a page that no row doubles",
-        size: LARGEST,
-        lent: Lent::without_regions(memory(LARGEST, 0, &table)),
+        letter,
+        what,
+        size,
+        lent: Lent::without_regions(memory(size, 0, &table)),
         work: Work::Fill(last as u64, reach.page(BLOCK, STAGE1_PAYLOAD)),
         per: Per::Call,
         end: 0,

@@ -1,6 +1,6 @@
-//! A full second table, which no command is about: what a run pays for it.
+//! A full second table: what a run pays for it, and commands about it.
 
-use super::{Case, Lent};
+use super::{bytes, Case, Command, Lent, Work, DPT, GUEST_FEATURES};
 use crate::limits::REGIONS;
 use crate::random::Random;
 
@@ -29,5 +29,21 @@ pub fn full(letter: &'static str, what: &'static str, case: Case) -> Case {
         what,
         lent,
         ..case
+    }
+}
+
+/// Commands 73 of 4KB each, over the rows of a case whose own commands they replace.
+pub fn about(letter: &'static str, what: &'static str, case: Case) -> Case {
+    let size = case.size;
+    let mut random = Random::new(11);
+    let command = |_| -> Command { (0x73, random.next() >> 20 << 12 | random.below(2)) };
+    let commands: Vec<Command> = (0..size.commands()).map(command).collect();
+    let work = Work::Runs {
+        queues: vec![bytes(size, &commands)],
+        features: GUEST_FEATURES | DPT,
+    };
+    Case {
+        work,
+        ..full(letter, what, case)
     }
 }

@@ -21,7 +21,7 @@ use Rattle.rows.specs.Rows as rows
 use Rattle.image.specs.Image.{rowAt}
 use Rattle.screens.specs.declared.Screen.{Screen}
 use Rattle.screens.specs.Screens.{named, reaching, passes, passesAt}
-use Rattle.screens.proofs.Answerers.{stream-named, stage-word, stage-marked}
+use Rattle.screens.proofs.Answerers.{answers-used, stream-named, stage-word, stage-marked}
 use Rattle.screens.proofs.Asking.{lets-through}
 use Rattle.screens.proofs.Distances.{shares-about}
 use Rattle.doubles.specs.Doubles.{sameStream, sharesAddress, sharesStage, sharesAsid, shares, collides, collidesAt, moreBytes, screenOf}
@@ -58,7 +58,8 @@ module _ (words row : Row) (fits : row .w2 < 2 ^ 64) where
         let n = 2 ^ rows.span words in
         let m = 2 ^ rows.span row in
         and-true
-        (shares-about row a (moreBytes words) fits (enough .0) (omega (arith, enough .1, first-ends-later a n (row .w2) m near)) (second-ends-later a n (row .w2) m near))
+        (and-true (answers-used row (b .second-answers))
+        (shares-about row a (moreBytes words) fits (enough .0) (omega (arith, enough .1, first-ends-later a n (row .w2) m near)) (second-ends-later a n (row .w2) m near)))
         (stage-marked row (b .second-answers) k i (bitAnd (words .w0) 0xffff180e) (sym (b .one-kind)) (sym (eqb-true i (rows.vmid row) (left own (sharesAddress words row) e)))
         (stage-word words (b .first-answers) k i _ refl refl refl))
 

@@ -59,7 +59,7 @@ fn shares(a: Row, b: Row) -> bool
 }
 
 // An empty row is not last-level, so it collides with none, and neither does a marked one.
-fn collides(a: Row, b: Row) -> bool
+pub fn collides(a: Row, b: Row) -> bool
     ensures { λ r. ⌜ r ≡ collides a b ⌝ }
 {
     rows::may_answer(a)

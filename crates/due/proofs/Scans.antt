@@ -12,8 +12,10 @@ use Rattle.words.specs.declared.Found.the-variants.{At, Nothing}
 use Rattle.words.proofs.Search.{Lowest, Searching, Wider, over-none, from-zero, found, is-none, passes-over, lowest-same}
 use Rattle.commands.specs.declared.Features.{Features}
 use Rattle.commands.specs.declared.Command.{Command}
+use Rattle.commands.specs.declared.Command.the-variants.{DptiPa}
 use Rattle.scopes.specs.Scopes.{invalidates, idle, inScope}
 use Rattle.regions.specs.Table as regions
+use Rattle.regions.specs.Scopes.{inRegion}
 use Rattle.region_scopes.specs.Scopes.{isRegional, inTable}
 use Rattle.memory.specs.Memory.{Memory, keptRows, rowsIn, scopedAt, cleared, Whole}
 use Rattle.memory.proofs.Laws.{idle-unscoped, is-kept, is-behind, scope-kept, scope-behind, first-alone, second-alone, scoped-cleared, scoped-other}
@@ -36,9 +38,14 @@ module _ (f : Features) (c : Command) (m : Memory) where
 abbrev pub secondAt : Command → List ℕ → ℕ → ℕ → Bool
 secondAt c table rows i = inTable c (regions.rowAt table (i - rows))
 
+pub of-region : (c : Command) (page size : ℕ) (leaf : Bool) → c ≡ DptiPa page size leaf → (table : List ℕ) (rows n i : ℕ)
+    → lowest (λ j. inRegion (regions.rowAt table (j - rows)) page size leaf) n i ≡ lowest (secondAt c table rows) n i
+unfolding inTable
+of-region c page size leaf e table rows n i = rw e refl
+
 -- a search of it that began at row `start`, under way at row i
-pub record Behind (c : Command) (table : List ℕ) (rows to start i : ℕ) : Type 0 where
-  pub going : Searching (secondAt c table rows) to (lowest (secondAt c table rows) (to - start) start) i
+pub record Behind (p : ℕ → Bool) (rows to start i : ℕ) : Type 0 where
+  pub going : Searching p to (lowest p (to - start) start) i
   pub past : min rows to ≤ i
 
 module _ (f : Features) (c : Command) (m : Memory) (from to : ℕ) where

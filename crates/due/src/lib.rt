@@ -7,9 +7,12 @@ use commands::Reason;
 use words::Found;
 ghost use mathlib.Core.Path.{_≡_};
 ghost use mathlib.Core.Bool.{true, false};
-ghost use Prim.Native.Nat.{_+_, _-_, _^_, _≤_, _<_, min, max};
+ghost use Prim.Native.Nat.{_+_, _-_, _*_, _^_, _≤_, _<_, min, max};
+ghost use lib.ListN.{length};
 ghost use Rattle.words.specs.Choice.{pick};
 ghost use Rattle.words.specs.Search.{lowest};
+ghost use Rattle.regions.specs.Table.{rowAt};
+ghost use Rattle.regions.specs.Scopes.{inRegion};
 ghost use Rattle.region_scopes.specs.Scopes.{isRegional};
 ghost use Rattle.memory.specs.Memory.{both, rowsIn, scopedAt, Whole};
 ghost use Rattle.due.specs.Due.{Among, scanned, afterCommand, Ready, Made};
@@ -57,6 +60,33 @@ fn greater(a: usize, b: usize) -> usize
     a
 }
 
+// Of a 73: the lowest row from `from` on and below `to`, those of the second table being counted from `rows` on. Where its region
+// begins and how long it is, is worked out once.
+fn find_region(
+    table: &[u64],
+    rows: usize,
+    page: u64,
+    size: u64,
+    leaf: bool,
+    from: usize,
+    to: usize,
+) -> Found
+    requires { ⌜ (from ≤ to) × (min rows to ≤ from) × (2 * (to - rows) ≤ length (now table)) ⌝ }
+    ensures { λ r. ⌜ r ≡ lowest (λ i. inRegion (rowAt (now (table .entry)) (i - rows)) page size leaf) (to - from) from ⌝ }
+{
+    let first = regions::address_of(page);
+    let bytes = regions::length_of(size);
+    let mut i = from;
+    while i < to {
+        let row = regions::row_at(table, i - rows);
+        if regions::in_region_of(row, first, bytes, page, size, leaf) {
+            return Found::At(i);
+        }
+        i += 1;
+    }
+    Found::Nothing
+}
+
 // Of a command about the second table: no row before it is looked at.
 fn find_second(
     kept: &[u64],
@@ -71,6 +101,9 @@ fn find_second(
 {
     let rows = kept.len() / 4;
     let mut i = greater(from, lesser(rows, to));
+    if let Command::DptiPa(page, size, leaf) = c {
+        return find_region(table, rows, page, size, leaf, i, to);
+    }
     while i < to {
         if region_scopes::in_table(c, regions::row_at(table, i - rows)) {
             return Found::At(i);
@@ -118,7 +151,7 @@ pub fn find_in(
     find_second(kept, table, f, c, from, to)
 }
 
-// The lowest row from `from` on that is in scope. A command that removes nothing is told before it is handed on.
+// The lowest row from `from` on that is in scope. A command that is no invalidation is told before it is handed on.
 fn find_from(kept: &[u64], table: &[u64], f: Features, c: Command, from: usize) -> Found
     requires { ⌜ Whole (both (now kept) (now table)) × (from ≤ rowsIn (both (now kept) (now table))) ⌝ }
     ensures { λ r. ⌜ r ≡ scanned f c (both (now (kept .entry)) (now (table .entry))) from ⌝ }

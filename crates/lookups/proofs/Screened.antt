@@ -17,7 +17,7 @@ use Rattle.rows.proofs.Covering.{covers-means}
 use Rattle.image.specs.Image.{rowsIn, rowAt}
 use Rattle.screens.specs.declared.Screen.{Screen}
 use Rattle.screens.specs.Screens.{passes, passesAt, covering}
-use Rattle.screens.proofs.Answerers.{stream-named, stage-marked}
+use Rattle.screens.proofs.Answerers.{answers-used, stream-named, stage-marked}
 use Rattle.screens.proofs.Asking.{lets-through}
 use Rattle.screens.proofs.Distances.{covers-near}
 use Rattle.lookups.specs.declared.Wanted.{Wanted}
@@ -36,7 +36,7 @@ module _ (row : Row) where
       → covering 0xffff180e (8 + k * 2 + vmidInPlace v) a row ≡ true
   stage-covering k v a m e d c =
       let within = covers-means row a c in
-      and-true (covers-near row a (within .0) (within .1))
+      and-true (and-true (answers-used row m) (covers-near row a (within .0) (within .1)))
       (stage-marked row m k v (8 + k * 2 + vmidInPlace v) e d (let p = vmid-placed v d in omega (arith, p)))
 
   module _ (may : rows.mayAnswer row ≡ true) where

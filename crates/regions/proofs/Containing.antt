@@ -34,6 +34,9 @@ module _ (a n b k : ℕ) where
   pub before : a < b → false ≡ liesIn a n b k
   before h = sym (never (liesIn a n b k) (λ e. omega (arith, begins-in e)))
 
+  pub past : 0 < n → b ≤ a → k ≤ a - b → false ≡ liesIn a n b k
+  past some h l = sym (never (liesIn a n b k) (λ e. omega (arith, ends-in e)))
+
   pub behind : b ≤ a → n ≤ k → leb (a - b) (k - n) ≡ liesIn a n b k
   behind h l =
       same-test (leb (a - b) (k - n)) (liesIn a n b k)

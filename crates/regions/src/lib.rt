@@ -5,9 +5,15 @@ mod fields;
 mod places;
 mod scopes;
 
+pub use fields::bytes_of;
+pub use fields::is_last;
+pub use fields::size_code;
 pub use fields::well_formed;
+pub use scopes::address_of;
 pub use scopes::in_all;
 pub use scopes::in_region;
+pub use scopes::in_region_of;
+pub use scopes::length_of;
 pub use scopes::names_region;
 ghost use mathlib.Core.Path.{_≡_};
 ghost use Prim.Native.Nat.{_+_, _*_, _≤_};

@@ -6,6 +6,7 @@ use crate::fields::is_last;
 use crate::fields::size_code;
 ghost use mathlib.Core.Path.{_≡_};
 ghost use Prim.Native.Nat.{_<_};
+ghost use Rattle.regions.specs.Regions.{bytes};
 ghost use Rattle.regions.specs.Scopes.{sizeOf, addressOf, namesRegion, liesIn, spared, inAll, inRegion};
 
 fn size_of(size: u64) -> u64
@@ -14,7 +15,13 @@ fn size_of(size: u64) -> u64
     words::part(size, 3, 0)
 }
 
-fn address_of(page: u64) -> u64
+pub fn length_of(size: u64) -> u64
+    ensures { λ r. ⌜ (r ≡ bytes (sizeOf size)) × (0 < r) ⌝ }
+{
+    bytes_of(size_of(size))
+}
+
+pub fn address_of(page: u64) -> u64
     ensures { λ r. ⌜ r ≡ addressOf page ⌝ }
 {
     words::part(page, 39, 0) * 0x1000
@@ -54,21 +61,29 @@ pub fn in_all(row: Region) -> bool
     !(row.w0 == 0)
 }
 
-// Whether 73 removes a row. Most rows lie elsewhere, so that this is asked first.
-pub fn in_region(row: Region, page: u64, size: u64, leaf: bool) -> bool
+// Whether 73 removes a row, by the first byte and the length that its fields give, so that these need not be worked out for each
+// row. Most rows begin elsewhere, so that this is asked first.
+pub fn in_region_of(row: Region, first: u64, length: u64, page: u64, size: u64, leaf: bool) -> bool
+    requires { ⌜ (first ≡ addressOf page) × (length ≡ bytes (sizeOf size)) ⌝ }
     ensures { λ r. ⌜ r ≡ inRegion row page size leaf ⌝ }
 {
+    if row.w1 < first {
+        return false;
+    }
+    if length <= row.w1 - first {
+        return false;
+    }
     if row.w0 == 0 {
         return false;
     }
-    let at = address_of(page);
-    if !lies_in(
-        row.w1,
-        bytes_of(size_code(row)),
-        at,
-        bytes_of(size_of(size)),
-    ) {
+    if !lies_in(row.w1, bytes_of(size_code(row)), first, length) {
         return false;
     }
     names_region(page, size) & !spared(row, leaf)
+}
+
+pub fn in_region(row: Region, page: u64, size: u64, leaf: bool) -> bool
+    ensures { λ r. ⌜ r ≡ inRegion row page size leaf ⌝ }
+{
+    in_region_of(row, address_of(page), length_of(size), page, size, leaf)
 }

@@ -101,29 +101,29 @@ module _ (row : Row) where
   unfolding marked
   marked-so mask value d = eq-eqb (bitAnd (row .w0) mask) value d
 
-  aimed-passes : (mask value : ℕ) (t : Target) → bitAnd (row .w0) mask ≡ value → reaches t row ≡ true → passes (aimed mask value t) row ≡ true
-  aimed-passes mask value t d e = ⊎-elim single several (decided (eqb (tgOf t) 0))
+  aimed-passes : (mask value : ℕ) (t : Target) → rows.isEmpty row ≡ false → bitAnd (row .w0) mask ≡ value → reaches t row ≡ true → passes (aimed mask value t) row ≡ true
+  aimed-passes mask value t used d e = ⊎-elim single several (decided (eqb (tgOf t) 0))
     where
       single : eqb (tgOf t) 0 ≡ true → passes (aimed mask value t) row ≡ true
       single z =
           let before : row .w2 ≤ firstOf t = omega (arith, ends t row e, single-length t (eqb-true (tgOf t) 0 z)) in
-          rw (z, covers-near row (firstOf t) before (begins t row e)) (marked-so mask value d)
+          rw (z, used, covers-near row (firstOf t) before (begins t row e)) (marked-so mask value d)
 
       several : eqb (tgOf t) 0 ≡ false → passes (aimed mask value t) row ≡ true
       several n =
-          rw (n, shares-about row (firstOf t) (lengthOf t - 1) (below-top t row e) (length-small t) (omega (arith, ends t row e)) (begins t row e))
+          rw (n, used, shares-about row (firstOf t) (lengthOf t - 1) (below-top t row e) (length-small t) (omega (arith, ends t row e)) (begins t row e))
           (marked-so mask value d)
 
-  stage-aimed : (k v : ℕ) (t : Target) → stageAt row k v t ≡ true → passes (aimed 0xffff1806 (k * 2 + idAt16 v) t) row ≡ true
+  stage-aimed : (k v : ℕ) (t : Target) → rows.isEmpty row ≡ false → stageAt row k v t ≡ true → passes (aimed 0xffff1806 (k * 2 + idAt16 v) t) row ≡ true
   unfolding stageAt
-  stage-aimed k v t e =
-      aimed-passes 0xffff1806 (k * 2 + idAt16 v) t (stage-marked k v (left (stageOf row k v) (reaches t row) e)) (right (stageOf row k v) (reaches t row) e)
+  stage-aimed k v t used e =
+      aimed-passes 0xffff1806 (k * 2 + idAt16 v) t used (stage-marked k v (left (stageOf row k v) (reaches t row) e)) (right (stageOf row k v) (reaches t row) e)
 
-  own-aimed : (f : Features) (t : Target) → ownAt row t ≡ true → eqb (rows.mark row) (regime f) ≡ true → passes (aimed 0x1806 (4 + regimeAt f) t) row ≡ true
+  own-aimed : (f : Features) (t : Target) → rows.isEmpty row ≡ false → ownAt row t ≡ true → eqb (rows.mark row) (regime f) ≡ true → passes (aimed 0x1806 (4 + regimeAt f) t) row ≡ true
   unfolding ownAt
-  own-aimed f t e r =
+  own-aimed f t used e r =
       let own = left (ownOf row) (reaches t row) e in
-      aimed-passes 0x1806 (4 + regimeAt f) t
+      aimed-passes 0x1806 (4 + regimeAt f) t used
       (word.own-is (row .w0) 2 (rows.mark row) (4 + regimeAt f) (own-kind own) refl (omega (arith, eqb-true (rows.mark row) (regime f) r)))
       (right (ownOf row) (reaches t row) e)
 
@@ -224,8 +224,8 @@ module _ (f : Features) (row : Row) where
       (omega (arith, st .id, id)))
   screened (TlbiNhVa vmid asid t) s =
       let any = hasAsid row asid || rows.isGlobal row in
-      stage-aimed row 2 vmid t (left (stageAt row 2 vmid t) any (left (stageAt row 2 vmid t && any) (not (spared row (t .leaf))) (s .removed)))
-  screened (TlbiNhVaa vmid t) s = stage-aimed row 2 vmid t (left (stageAt row 2 vmid t) (not (spared row (t .leaf))) (s .removed))
+      stage-aimed row 2 vmid t (s .used) (left (stageAt row 2 vmid t) any (left (stageAt row 2 vmid t && any) (not (spared row (t .leaf))) (s .removed)))
+  screened (TlbiNhVaa vmid t) s = stage-aimed row 2 vmid t (s .used) (left (stageAt row 2 vmid t) (not (spared row (t .leaf))) (s .removed))
   screened TlbiEl2All s = marked-passes 6 4 (word.kind-is (row .w0) 2 (own-kind row (s .removed)))
   screened (TlbiEl2Asid asid) s =
       let three = left (ownOf row && isE2h row && hasAsid row asid) (not (rows.isGlobal row)) (s .removed) in
@@ -237,12 +237,12 @@ module _ (f : Features) (row : Row) where
       (eqb-true (rows.mark row) 2 (right (ownOf row) (isE2h row) two)) refl (omega (arith, id)))
   screened (TlbiEl2Va asid t) s =
       let any = not (isE2h row) || hasAsid row asid || rows.isGlobal row in
-      own-aimed row f t (left (ownAt row t) any (left (ownAt row t && any) (not (spared row (t .leaf))) (s .removed))) (s .ruled)
-  screened (TlbiEl2Vaa t) s = own-aimed row f t (left (ownAt row t) (not (spared row (t .leaf))) (s .removed)) (s .ruled)
+      own-aimed row f t (s .used) (left (ownAt row t) any (left (ownAt row t && any) (not (spared row (t .leaf))) (s .removed))) (s .ruled)
+  screened (TlbiEl2Vaa t) s = own-aimed row f t (s .used) (left (ownAt row t) (not (spared row (t .leaf))) (s .removed)) (s .ruled)
   screened (TlbiS12Vmall vmid) s =
       marked-passes 0xffff1804 (4 + idAt16 vmid)
       (⊎-elim (λ p. either-marked row 2 vmid refl p) (λ q. either-marked row 3 vmid refl q) (either (stageOf row 2 vmid) (stageOf row 3 vmid) (s .removed)))
-  screened (TlbiS2Ipa vmid t) s = stage-aimed row 3 vmid t (left (stageAt row 3 vmid t) (not (spared row (t .leaf))) (s .removed))
+  screened (TlbiS2Ipa vmid t) s = stage-aimed row 3 vmid t (s .used) (left (stageAt row 3 vmid t) (not (spared row (t .leaf))) (s .removed))
   screened TlbiNsnhAll s =
       marked-passes 0x1804 4
       (⊎-elim (λ p. any-marked row 2 refl p) (λ q. any-marked row 3 refl q) (either (ofStage row 2) (ofStage row 3) (s .removed)))

@@ -1,4 +1,5 @@
--- Document 02, T-13: what a row must be like to be in a command's scope. No promise cites these: a run says what it did by the scope itself.
+-- Document 02, T-13: what a row must be like to be in a command's scope. No theorem of
+-- `promises` and no contract of a call cites these: a run says what it did by the scope itself.
 -- Assumes nothing.
 use Prim.Native.Nat.{ℕ, _+_, _-_, _*_, _/_, _%_, _^_}
 use lib.Dec.{eqb}

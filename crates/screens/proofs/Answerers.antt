@@ -6,14 +6,14 @@ use mathlib.Core.List.{[], _∷_}
 use Prim.Native.Nat.{ℕ, _+_, _*_, _^_}
 use native.Mathlib.Omega.{arith}
 use lib.Bits.{bitAnd}
-use borrow.Author.Tests.{eqb-true, eq-eqb}
+use borrow.Author.Tests.{eqb-true, eq-eqb, ne-eqb}
 use Rattle.words.specs.Parts.{part}
 use Rattle.words.specs.Ranges.{get}
 use Rattle.words.proofs.Truth.{and-true}
 use Rattle.rows.specs.declared.Row.{Row}
 use Rattle.rows.specs.Rows as rows
 use Rattle.rows.proofs.LastLevel.{answers-last, answers-unmarked}
-use Rattle.screens.specs.Screens.{marked, named}
+use Rattle.screens.specs.Screens.{marked, named, used}
 use Rattle.screens.proofs.Fields.{gap, marked-by}
 
 -- last-level is bit 3, and a mark of 0 leaves nothing
@@ -34,6 +34,10 @@ stream-under w s a = marked-by (gap 0 32 ∷ []) 0xffffffff s w refl (omega (ari
 module _ (row : Row) (a : rows.mayAnswer row ≡ true) where
   is-last : get rows.lastBits (row .w0) ≡ 1
   is-last = eqb-true (get rows.lastBits (row .w0)) 1 (answers-last row a)
+
+  pub answers-used : used row ≡ true
+  unfolding part
+  answers-used = rw (ne-eqb (row .w0) 0 (λ z. omega (arith, is-last, z))) refl
 
   no-mark : rows.mark row ≡ 0
   no-mark = eqb-true (rows.mark row) 0 (answers-unmarked row a)

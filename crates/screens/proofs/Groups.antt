@@ -8,7 +8,7 @@ use mathlib.Core.Logic.{⊎-elim}
 use Rattle.words.specs.declared.Found.the-variants.{Nothing}
 use Rattle.words.proofs.Search.{Searching, Wider, is-none, over-none}
 use Rattle.words.proofs.Truth.{less-or-not}
-use Rattle.screens.specs.Screens.{lowestFrom, anyFour, Skips}
+use Rattle.screens.specs.Screens.{lowestFrom, anyFour, NoneOfEight, Skips}
 
 neither : (a b : Bool) → (a || b) ≡ false → a ≡ false
 neither true b e = e
@@ -47,18 +47,34 @@ pub begins : {p : ℕ → Bool} {from to : ℕ} → from ≤ to → Skips p from
 begins h = record { least = omega arith; most = h; none = λ j a b. absurd (omega arith) }
 
 -- eight more
-pub past : {p : ℕ → Bool} {from to i : ℕ} {a b : Bool} → Skips p from to i → 8 ≤ to - i → a ≡ anyFour p i → b ≡ anyFour p (i + 4) → (a || b) ≡ false
-    → Skips p from to (i + 8)
-past {p} {from} {to} {i} {a} {b} s h e g f =
+pub none-of-eight : {p : ℕ → Bool} {i : ℕ} {a b : Bool} → a ≡ anyFour p i → b ≡ anyFour p (i + 4) → (a || b) ≡ false → NoneOfEight p i
+none-of-eight {p} {i} {a} {b} e g f =
+    record {
+      none = λ j n m. ⊎-elim (λ k. four-off p i (sym e ∙ neither a b f) j n k) (λ k. four-off p (i + 4) (sym g ∙ nor a b f) j k (omega arith)) (less-or-not j (i + 4));
+    }
+
+pub past-eight : {p : ℕ → Bool} {from to i : ℕ} → Skips p from to i → 8 ≤ to - i → NoneOfEight p i → Skips p from to (i + 8)
+past-eight {i = i} s h gone =
     record {
       least = omega (arith, s .least);
       most = omega (arith, s .most, h);
-      none = λ j l m. ⊎-elim (λ n. s .none j l n) (λ n. here j n m) (less-or-not j i);
+      none = λ j l m. ⊎-elim (λ n. s .none j l n) (λ n. gone .none j n m) (less-or-not j i);
     }
-  where
-    here : (j : ℕ) → i ≤ j → j < i + 8 → p j ≡ false
-    here j n m =
-        ⊎-elim (λ k. four-off p i (sym e ∙ neither a b f) j n k) (λ k. four-off p (i + 4) (sym g ∙ nor a b f) j k (omega arith)) (less-or-not j (i + 4))
+
+pub past : {p : ℕ → Bool} {from to i : ℕ} {a b : Bool} → Skips p from to i → 8 ≤ to - i → a ≡ anyFour p i → b ≡ anyFour p (i + 4) → (a || b) ≡ false
+    → Skips p from to (i + 8)
+past s h e g f = past-eight s h (none-of-eight e g f)
+
+-- what fails one of two tests fails both
+never-both : (b : Bool) → (b && false) ≡ false
+never-both true = refl
+never-both false = refl
+
+pub first-off : (p q : ℕ → Bool) {i : ℕ} → NoneOfEight p i → NoneOfEight (λ j. p j && q j) i
+first-off p q off = record { none = λ j n m. rw (off .none j n m) refl }
+
+pub second-off : (p q : ℕ → Bool) {i : ℕ} → NoneOfEight q i → NoneOfEight (λ j. p j && q j) i
+second-off p q off = record { none = λ j n m. rw (off .none j n m) (never-both (p j)) }
 
 -- behind them a search goes on
 pub resumes : {p : ℕ → Bool} {from to r : ℕ} → from ≤ to → Skips p from to r → Searching p to (lowestFrom p from to) r

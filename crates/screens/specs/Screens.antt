@@ -1,5 +1,5 @@
--- Document 02, T-13: quick tests of rows, and the next row that one lets through. No promise cites these: what a call did it says by the
--- rule of the rows that it looked for.
+-- Document 02, T-13: quick tests of rows, and the next row that one lets through. No theorem of
+-- `promises` and no contract of a call cites these: what a call did it says by the rule of the rows that it looked for.
 -- Assumes nothing.
 use Prim.Native.Nat.{ℕ, _+_, _-_, _*_, _/_, _%_, _^_, _≤_, _<_}
 use mathlib.Core.Path.{_≡_}
@@ -37,11 +37,21 @@ near address row = eqb (ahead address (row .w2) / 2 ^ rows.span row) 0
 unfoldable pub about : ℕ → ℕ → Row → Bool
 about last more row = ltb (ahead last (row .w2)) ((2 ^ rows.span row + more) % 2 ^ 64)
 
+-- of used rows
+abbrev pub used : Row → Bool
+used row = not (eqb (row .w0) 0)
+
+abbrev pub nearby : ℕ → Row → Bool
+nearby address row = used row && near address row
+
+abbrev pub touched : ℕ → ℕ → Row → Bool
+touched last more row = used row && about last more row
+
 abbrev pub covering : ℕ → ℕ → ℕ → Row → Bool
-covering mask value address row = near address row && marked mask value row
+covering mask value address row = nearby address row && marked mask value row
 
 abbrev pub reaching : ℕ → ℕ → ℕ → ℕ → Row → Bool
-reaching mask value last more row = about last more row && marked mask value row
+reaching mask value last more row = touched last more row && marked mask value row
 
 abbrev pub passes : Screen → Row → Bool
 passes Nobody row = false
@@ -68,6 +78,9 @@ pub record Within (kept : List ℕ) (from to : ℕ) : Type 0 where
 -- rows are gone past in groups
 abbrev pub anyFour : (ℕ → Bool) → ℕ → Bool
 anyFour p i = ((p i || p (i + 1)) || p (i + 2)) || p (i + 3)
+
+pub record NoneOfEight (p : ℕ → Bool) (i : ℕ) : Type 0 where
+  pub none : (j : ℕ) → i ≤ j → j < i + 8 → p j ≡ false
 
 pub record Skips (p : ℕ → Bool) (from to r : ℕ) : Type 0 where
   pub least : from ≤ r

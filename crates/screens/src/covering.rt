@@ -1,12 +1,14 @@
 // Rows by the address that they cover. Few rows cover it, so word 0 is looked at behind that.
 use crate::marked;
+use crate::used;
 use rows::Row;
 use words::Found;
 ghost use mathlib.Core.Path.{_≡_};
+ghost use mathlib.Core.Bool.{false};
 ghost use Prim.Native.Nat.{_+_, _*_, _≤_};
 ghost use lib.ListN.{length};
 ghost use Rattle.image.specs.Image.{rowAt};
-ghost use Rattle.screens.specs.Screens.{near, covering, anyFour, lowestFrom, Within, Skips};
+ghost use Rattle.screens.specs.Screens.{near, nearby, covering, anyFour, NoneOfEight, lowestFrom, Within, Skips};
 
 // As far behind the address, around 2^64, as a row that covers it is.
 fn near(row: Row, address: u64) -> bool
@@ -26,14 +28,31 @@ fn four(kept: &[u64], address: u64, i: usize) -> bool
         | near(image::row_at(kept, i + 3), address)
 }
 
+fn nearby(row: Row, address: u64) -> bool
+    ensures { λ r. ⌜ r ≡ nearby address row ⌝ }
+{
+    used::test(row) & near(row, address)
+}
+
+// Whether one of the eight rows from row i on may be a used one that is.
+fn eight(kept: &[u64], address: u64, i: usize) -> bool
+    requires { ⌜ 4 * i + 33 ≤ length (now kept) ⌝ }
+    ensures { λ r. ⌜ (r ≡ false → NoneOfEight (λ j. nearby address (rowAt (now (kept .entry)) j)) i) ⌝ }
+{
+    if !used::eight(kept, i) {
+        return false;
+    }
+    four(kept, address, i) | four(kept, address, i + 4)
+}
+
 // Goes past rows that are not, eight at a time.
 fn skip(kept: &[u64], address: u64, from: usize, to: usize) -> usize
     requires { ⌜ Within (now kept) from to ⌝ }
-    ensures { λ r. ⌜ Skips (λ j. near address (rowAt (now (kept .entry)) j)) from to r ⌝ }
+    ensures { λ r. ⌜ Skips (λ j. nearby address (rowAt (now (kept .entry)) j)) from to r ⌝ }
 {
     let mut i = from;
     while 8 <= to - i {
-        if four(kept, address, i) | four(kept, address, i + 4) {
+        if eight(kept, address, i) {
             return i;
         }
         i += 8;
@@ -41,13 +60,13 @@ fn skip(kept: &[u64], address: u64, from: usize, to: usize) -> usize
     i
 }
 
-fn next_near(kept: &[u64], address: u64, from: usize, to: usize) -> Found
+fn next_nearby(kept: &[u64], address: u64, from: usize, to: usize) -> Found
     requires { ⌜ Within (now kept) from to ⌝ }
-    ensures { λ r. ⌜ r ≡ lowestFrom (λ j. near address (rowAt (now (kept .entry)) j)) from to ⌝ }
+    ensures { λ r. ⌜ r ≡ lowestFrom (λ j. nearby address (rowAt (now (kept .entry)) j)) from to ⌝ }
 {
     let mut i = skip(kept, address, from, to);
     while i < to {
-        if near(image::row_at(kept, i), address) {
+        if nearby(image::row_at(kept, i), address) {
             return Found::At(i);
         }
         i += 1;
@@ -62,7 +81,7 @@ pub fn next(kept: &[u64], mask: u64, value: u64, address: u64, from: usize, to: 
 {
     let mut i = from;
     while i < to {
-        let Found::At(row) = next_near(kept, address, i, to) else {
+        let Found::At(row) = next_nearby(kept, address, i, to) else {
             return Found::Nothing;
         };
         if marked::test(image::row_at(kept, row), mask, value) {

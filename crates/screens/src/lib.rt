@@ -6,6 +6,7 @@ mod marked;
 mod named;
 mod reaching;
 mod streaming;
+mod used;
 
 use words::Found;
 ghost use mathlib.Core.Path.{_≡_};

@@ -1,12 +1,14 @@
 // Rows by the bytes that they share, the last and so many before it. Few rows do, so word 0 is looked at behind that.
 use crate::marked;
+use crate::used;
 use rows::Row;
 use words::Found;
 ghost use mathlib.Core.Path.{_≡_};
+ghost use mathlib.Core.Bool.{false};
 ghost use Prim.Native.Nat.{_+_, _*_, _≤_};
 ghost use lib.ListN.{length};
 ghost use Rattle.image.specs.Image.{rowAt};
-ghost use Rattle.screens.specs.Screens.{about, reaching, anyFour, lowestFrom, Within, Skips};
+ghost use Rattle.screens.specs.Screens.{about, touched, reaching, anyFour, NoneOfEight, lowestFrom, Within, Skips};
 
 // As far behind the last byte, around 2^64, as a row that shares one is.
 fn about(row: Row, last: u64, more: u64) -> bool
@@ -26,14 +28,31 @@ fn four(kept: &[u64], last: u64, more: u64, i: usize) -> bool
         | about(image::row_at(kept, i + 3), last, more)
 }
 
+fn touched(row: Row, last: u64, more: u64) -> bool
+    ensures { λ r. ⌜ r ≡ touched last more row ⌝ }
+{
+    used::test(row) & about(row, last, more)
+}
+
+// Whether one of the eight rows from row i on may be a used one that is.
+fn eight(kept: &[u64], last: u64, more: u64, i: usize) -> bool
+    requires { ⌜ 4 * i + 33 ≤ length (now kept) ⌝ }
+    ensures { λ r. ⌜ (r ≡ false → NoneOfEight (λ j. touched last more (rowAt (now (kept .entry)) j)) i) ⌝ }
+{
+    if !used::eight(kept, i) {
+        return false;
+    }
+    four(kept, last, more, i) | four(kept, last, more, i + 4)
+}
+
 // Goes past rows that are not, eight at a time.
 fn skip(kept: &[u64], last: u64, more: u64, from: usize, to: usize) -> usize
     requires { ⌜ Within (now kept) from to ⌝ }
-    ensures { λ r. ⌜ Skips (λ j. about last more (rowAt (now (kept .entry)) j)) from to r ⌝ }
+    ensures { λ r. ⌜ Skips (λ j. touched last more (rowAt (now (kept .entry)) j)) from to r ⌝ }
 {
     let mut i = from;
     while 8 <= to - i {
-        if four(kept, last, more, i) | four(kept, last, more, i + 4) {
+        if eight(kept, last, more, i) {
             return i;
         }
         i += 8;
@@ -41,13 +60,13 @@ fn skip(kept: &[u64], last: u64, more: u64, from: usize, to: usize) -> usize
     i
 }
 
-fn next_about(kept: &[u64], last: u64, more: u64, from: usize, to: usize) -> Found
+fn next_touched(kept: &[u64], last: u64, more: u64, from: usize, to: usize) -> Found
     requires { ⌜ Within (now kept) from to ⌝ }
-    ensures { λ r. ⌜ r ≡ lowestFrom (λ j. about last more (rowAt (now (kept .entry)) j)) from to ⌝ }
+    ensures { λ r. ⌜ r ≡ lowestFrom (λ j. touched last more (rowAt (now (kept .entry)) j)) from to ⌝ }
 {
     let mut i = skip(kept, last, more, from, to);
     while i < to {
-        if about(image::row_at(kept, i), last, more) {
+        if touched(image::row_at(kept, i), last, more) {
             return Found::At(i);
         }
         i += 1;
@@ -70,7 +89,7 @@ pub fn next(
 {
     let mut i = from;
     while i < to {
-        let Found::At(row) = next_about(kept, last, more, i, to) else {
+        let Found::At(row) = next_touched(kept, last, more, i, to) else {
             return Found::Nothing;
         };
         if marked::test(image::row_at(kept, row), mask, value) {

@@ -3,13 +3,13 @@
 use Prim.Native.Nat.{_-_}
 use native.Mathlib.Omega.{arith}
 use Rattle.image.specs.Image.{rowAt}
-use Rattle.screens.specs.Screens.{near, Skips}
-use Rattle.screens.proofs.Groups.{begins, past}
+use Rattle.screens.specs.Screens.{nearby, Skips}
+use Rattle.screens.proofs.Groups.{begins, past-eight}
 use Rattle.screens.proofs.covering.skip.Statement.{statement}
 use Rattle.screens.proofs.covering.skip.Tie as tie
 
 abbrev Inv-loop : tie.InvT-loop
-Inv-loop kept address from to i₀ i = Skips (λ j. near address (rowAt kept j)) from to i
+Inv-loop kept address from to i₀ i = Skips (λ j. nearby address (rowAt kept j)) from to i
 
 abbrev μ-loop : tie.MeasureT-loop
 μ-loop kept address from to i₀ i = to - i
@@ -20,28 +20,20 @@ loop-holds c = begins (c .before .pre .order)
 sub-loop : tie.Need-sub-loop Inv-loop μ-loop
 sub-loop c = c .loop .inv .most
 
-four-requires : tie.Need-four-requires Inv-loop μ-loop
-four-requires c κs = omega (arith, c .loop-test .taken, c .before .loop .inv .most, c .before .before .before .pre .there)
-
-add-four : tie.Need-add-four Inv-loop μ-loop
-add-four c = record { fits = omega (arith, c .before .loop-test .taken, c .before .before .before .before .fits .to) }
-
-four-requires-2 : tie.Need-four-requires-2 Inv-loop μ-loop
-four-requires-2 c κs = omega (arith, c .before .loop-test .taken, c .before .before .loop .inv .most, c .before .before .before .before .pre .there)
+eight-requires : tie.Need-eight-requires Inv-loop μ-loop
+eight-requires c κs = omega (arith, c .loop-test .taken, c .before .loop .inv .most, c .before .before .before .pre .there)
 
 returns : tie.Need-returns Inv-loop μ-loop
-returns c = c .before .before .before .before .loop .inv
+returns c = c .before .before .before .loop .inv
 
 add-i : tie.Need-add-i Inv-loop μ-loop
-add-i c = record { fits = omega (arith, c .before .before .before .loop-test .taken, c .before .before .before .before .before .before .fits .to) }
+add-i c = record { fits = omega (arith, c .before .before .loop-test .taken, c .before .before .before .before .before .fits .to) }
 
 loop-less : tie.Need-loop-less Inv-loop μ-loop
-loop-less c = omega (arith, c .before .before .before .loop-test .taken)
+loop-less c = omega (arith, c .before .before .loop-test .taken)
 
 loop-again : tie.Need-loop-again Inv-loop μ-loop
-loop-again c =
-    past (c .before .before .before .before .loop .inv) (c .before .before .before .loop-test .taken) (c .before .before .four .ensures)
-    (c .before .four2 .ensures) (c .if1 .left)
+loop-again c = past-eight (c .before .before .before .loop .inv) (c .before .before .loop-test .taken) (c .before .eight .ensures (c .if1 .left))
 
 returns-2 : tie.Need-returns-2 Inv-loop μ-loop
 returns-2 c = c .before .loop .inv
@@ -54,9 +46,7 @@ skip-spec =
     μ-loop
     loop-holds
     sub-loop
-    four-requires
-    add-four
-    four-requires-2
+    eight-requires
     returns
     add-i
     loop-less

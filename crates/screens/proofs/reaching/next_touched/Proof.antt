@@ -1,4 +1,4 @@
--- `screens::covering::next_near` meets its contract: what the whole search finds, the rest of it finds.
+-- `screens::reaching::next_touched` meets its contract: what the whole search finds, the rest of it finds.
 -- Assumes nothing.
 use mathlib.Core.Path.{sym, _∙_}
 use Prim.Native.Nat.{_-_}
@@ -6,16 +6,16 @@ use native.Mathlib.Omega.{arith}
 use borrow.Author.Needs.{needs}
 use Rattle.words.proofs.Search.{Searching, finds, passes, finds-none}
 use Rattle.image.specs.Image.{rowAt}
-use Rattle.screens.specs.Screens.{near, lowestFrom}
+use Rattle.screens.specs.Screens.{touched, lowestFrom}
 use Rattle.screens.proofs.Groups.{resumes}
-use Rattle.screens.proofs.covering.next_near.Statement.{statement}
-use Rattle.screens.proofs.covering.next_near.Tie as tie
+use Rattle.screens.proofs.reaching.next_touched.Statement.{statement}
+use Rattle.screens.proofs.reaching.next_touched.Tie as tie
 
 abbrev Inv-loop : tie.InvT-loop
-Inv-loop kept address from to i₀ i = Searching (λ j. near address (rowAt kept j)) to (lowestFrom (λ j. near address (rowAt kept j)) from to) i
+Inv-loop kept last more from to i₀ i = Searching (λ j. touched last more (rowAt kept j)) to (lowestFrom (λ j. touched last more (rowAt kept j)) from to) i
 
 abbrev μ-loop : tie.MeasureT-loop
-μ-loop kept address from to i₀ i = to - i
+μ-loop kept last more from to i₀ i = to - i
 
 loop-holds : tie.Need-loop-holds Inv-loop μ-loop
 loop-holds c = resumes (c .before .before .pre .order) (c .skip .ensures)
@@ -26,18 +26,18 @@ row-at-requires c κs = omega (arith, c .loop-test .taken, c .before .before .be
 returns : tie.Need-returns Inv-loop μ-loop
 returns c =
     finds (c .before .before .before .before .loop .inv) (c .before .before .before .loop-test .taken)
-    (rw (c .before .before .row-at .ensures) at (sym (c .before .near .ensures) ∙ c .if1 .taken))
+    (rw (c .before .before .row-at .ensures) at (sym (c .before .touched .ensures) ∙ c .if1 .taken))
 
 loop-again : tie.Need-loop-again Inv-loop μ-loop
 loop-again c =
     passes (c .before .before .before .before .loop .inv) (c .before .before .before .loop-test .taken)
-    (rw (c .before .before .row-at .ensures) at (sym (c .before .near .ensures) ∙ c .if1 .left))
+    (rw (c .before .before .row-at .ensures) at (sym (c .before .touched .ensures) ∙ c .if1 .left))
 
 returns-2 : tie.Need-returns-2 Inv-loop μ-loop
 returns-2 c = finds-none (c .before .loop .inv) (c .loop-test .left)
 
-pub next-near-spec : {M : Type 1} → statement M
-next-near-spec =
+pub next-touched-spec : {M : Type 1} → statement M
+next-touched-spec =
     tie.close
     (tie.spec
     Inv-loop
