@@ -8,7 +8,7 @@ use mathlib.Core.Logic.{⊎-elim}
 use Prim.Native.Nat.{ℕ, _+_, _*_, _^_, _≤_}
 use native.Mathlib.Omega.{arith}
 use lib.Dec.{eqb}
-use lib.ListN.{length, length-append}
+use lib.ListN.{set, length, length-append}
 use Rattle.words.specs.Outcomes.{Outcome, with}
 use Rattle.words.proofs.Truth.{less-or-not}
 use Rattle.rows.specs.declared.Row.{Row}
@@ -266,6 +266,23 @@ module _ (w : World) (a : Accepted w) (k : ℕ) (bytes : List ℕ) where
       by-flag true t = rw (full-told (write-left .recorder) bytes j (a .slots) write-left-accepted full t) refl
       by-flag false t = rw (full-tells (write-left .recorder) bytes j (a .slots) write-left-accepted full t (omega arith)) refl
 
+  -- the drop stores nothing if an overflow is outstanding already
+  pub dropped-untold : isFull (indexOf (write-left .recorder)) ≡ true → outstanding (indexOf (write-left .recorder)) ≡ true
+      → Same (EventWrite bytes) (DidWrite (record { end = Dropped; stores = 0 })) write-left
+  dropped-untold full t =
+      let m′ = write-left .recorder in
+      let e : (j : ℕ) → write m′ bytes j ≡ with (DidWrite (record { end = Dropped; stores = 0 })) m′ =
+      λ j. full-told m′ bytes j (a .slots) write-left-accepted full t in
+      record {
+        told = λ j. ap (λ (o : Outcome (List ℕ) WriteAnswer). o .answer) (e j);
+        stays = λ j. ap (λ (o : Outcome (List ℕ) WriteAnswer). inRecorder w o .memory) (e j);
+      }
+
+  -- else the index word is stored, with OVERFLOW turned
+  pub dropped-told : isFull (indexOf (write-left .recorder)) ≡ true → outstanding (indexOf (write-left .recorder)) ≡ false → (j : ℕ) → 1 ≤ j
+      → tried (EventWrite bytes) j write-left .memory .recorder ≡ set (write-left .recorder) 0 (flipped (indexOf (write-left .recorder)))
+  dropped-told full t j h = rw (full-tells (write-left .recorder) bytes j (a .slots) write-left-accepted full t (omega arith)) refl
+
   -- a Dropped one is dropped, with no store: no word changes
   still-full : Ends Dropped (tried (EventWrite bytes) k w .answer) → isFull (indexOf (write-left .recorder)) ≡ true
   still-full end = by-case (wrote (w .recorder) bytes k)
@@ -279,14 +296,7 @@ module _ (w : World) (a : Accepted w) (k : ℕ) (bytes : List ℕ) where
       by-case (stores-part n b room h e) = let q : Cut ≡ Dropped = rw e at end in let z : _≡_ {A = ℕ} 0 1 = cc in absurd (omega arith)
 
   pub dropped-again : Ends Dropped (tried (EventWrite bytes) k w .answer) → Same (EventWrite bytes) (DidWrite (record { end = Dropped; stores = 0 })) write-left
-  dropped-again end =
-      let m′ = write-left .recorder in
-      let e : (j : ℕ) → write m′ bytes j ≡ with (DidWrite (record { end = Dropped; stores = 0 })) m′ =
-      λ j. full-told m′ bytes j (a .slots) write-left-accepted (still-full end) (dropped-outstanding (w .recorder) bytes k end) in
-      record {
-        told = λ j. ap (λ (o : Outcome (List ℕ) WriteAnswer). o .answer) (e j);
-        stays = λ j. ap (λ (o : Outcome (List ℕ) WriteAnswer). inRecorder w o .memory) (e j);
-      }
+  dropped-again end = dropped-untold (still-full end) (dropped-outstanding (w .recorder) bytes k end)
 
 -- a refused call stored nothing, and is refused so again
 module _ (w : World) (k : ℕ) where
