@@ -60,7 +60,7 @@ fn another(whole: Whole, k: u64, queue: &[u8; BYTES], counts: Counts) -> Counts 
 fn tell(whole: Whole, counts: Counts) {
     let stores = whole.stores;
     told(
-        b"calls #, stores #\nPlayed again # times, power going after each number of stores: # times in a call that was then made again, else before a call's only store\n{Not all|All} nights ended in the same words, with the same answers\n",
+        b"calls #, stores #\nPlayed again # times, power going after each number of stores: # times in a call that was then made again, else before a call's only store\n{Not all|All} nights ended in the same words, with the same answers but for a run's counts\n",
         [
             whole.count as u64,
             stores,

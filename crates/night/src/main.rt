@@ -1,5 +1,6 @@
-// The fire night again: one command that takes a mapping away, and a power cut after each number of stores. Then a whole night,
-// which stands in the input, and a power cut after each number of its stores.
+// The fire night again: one command that takes a mapping away, and a power cut after each number of stores; beside it the same
+// stores with RD first, as they were made that night. Then a whole night, which stands in the input, and a power cut after each
+// number of its stores.
 mod cuts;
 mod list;
 mod made;
@@ -17,6 +18,9 @@ fn main() {
     nights::cut(1, &uncut);
     nights::cut(2, &uncut);
     nights::cut(3, &uncut);
+    nights::rd_first(0, &uncut);
+    nights::rd_first(1, &uncut);
+    nights::rd_first(2, &uncut);
     night();
 }
 

@@ -72,9 +72,26 @@ pub fn cut(allowance: u64, whole: &[u64; 9]) {
     run(&mut kept, allowance);
     state(&kept);
     say(b"  called again: ");
-    run(&mut kept, ENOUGH);
+    ended(&mut kept, whole);
+}
+
+// What is found where RD is stored first, and what the unit makes of it.
+pub fn rd_first(stores: u64, whole: &[u64; 9]) {
+    let mut kept = scene::rd_first(stores, whole);
+    told(
+        b"\nThe fire night's order, RD first: power for # of the two stores\n",
+        [stores, 0, 0, 0, 0, 0, 0, 0],
+    );
+    state(&kept);
+    say(b"  the unit, called then: ");
+    ended(&mut kept, whole);
+}
+
+// A run with enough, and whether it leaves what the night without a cut leaves.
+fn ended(kept: &mut [u64; 9], whole: &[u64; 9]) {
+    run(&mut *kept, ENOUGH);
     told(
         b"  the same memory as with no cut: {no|yes}\n",
-        [scene::same(&kept, whole, 0, 9), 0, 0, 0, 0, 0, 0, 0],
+        [scene::same(&*kept, whole, 0, 9), 0, 0, 0, 0, 0, 0, 0],
     );
 }

@@ -25,6 +25,18 @@ pub fn queue() -> [u8; 16] {
     [0x12, 0, 0, 0, 5, 0, 7, 0, 0, 0, 0, 0x80, 0, 0, 0, 0]
 }
 
+// The two stores that the unit makes, RD first and then the row: what is there after so many of them.
+pub fn rd_first(stores: u64, whole: &[u64; 9]) -> [u64; 9] {
+    let mut left = memory();
+    if 0 < stores {
+        left[0] = whole[0];
+    }
+    if 1 < stores {
+        left[5] = whole[5];
+    }
+    left
+}
+
 // Whether the words from one place to another are the same in both memories: 1, else 0.
 pub fn same(a: &[u64; 9], b: &[u64; 9], from: usize, to: usize) -> u64
     requires { ⌜ to ≤ 9 ⌝ }
