@@ -13,8 +13,9 @@ import os
 import re
 import sys
 
-STORES = {
-    # to kept memory, of which a call makes at most one
+# To lent memory: box/volatile.py marks each of these in what is compiled, and asks for the same numbers there.
+LENT = {
+    # words of kept memory, second table and recorder, of which a call makes at most one
     ('due', 'step'): 4,
     ('fills', 'step'): 1,
     ('control_calls', 'doorbell'): 1,
@@ -27,18 +28,21 @@ STORES = {
     ('event_calls', 'acknowledge'): 1,
     ('region_fills', 'step'): 1,
     ('batch_writes', 'ring'): 1,
-    # to the bytes of a slot: those of one word
+    # the bytes of a slot: those of one word
     ('words', 'store_at'): 8,
-    # to other memory: the words of an answer, lent fields, an array of its caller's, marks
+}
+# To other memory: the words of an answer, lent fields, an array of its caller's, marks.
+OTHER = {
     ('host', 'tell'): 1,
     ('registers', 'acknowledge'): 1,
     ('image_state', 'gather'): 1,
     ('batches', 'mark_rows'): 1,
 }
+STORES = {**LENT, **OTHER}
 # What a function lends last: a batch's doorbell comes behind all that is written to the queue.
 LAST = {('batch_writes', 'write_batch'): 'ring'}
-# No part of the unit: it reads and writes text for the programs, and no crate of the unit rests on it.
-OUTSIDE = {'text'}
+# No part of the unit: they read and write text for the programs, and no crate of the unit rests on them.
+OUTSIDE = {'text', 'command_text'}
 # It fills its caller's array, in a loop. So nothing but an array of its caller's own is handed to it.
 GATHERS = ('image_state', 'gather')
 
@@ -137,7 +141,7 @@ def unit_on_outside(folder):
     with open(os.path.join(folder, '..', 'crates.txt'), encoding='utf-8') as opened:
         lines = [line.split('#')[0].split(':') for line in opened if ':' in line.split('#')[0]]
     for name, needs in lines:
-        if os.path.isfile(os.path.join(folder, name, 'src', 'lib.rt')):
+        if name not in OUTSIDE and os.path.isfile(os.path.join(folder, name, 'src', 'lib.rt')):
             yield from ((name, other) for other in OUTSIDE & set(needs.split()))
 
 

@@ -1,4 +1,5 @@
 # What the scripts of this folder share. Sourced, after the script has gone to the repository's root.
+root=$PWD
 
 # The sources of the test of stores without its machine's decoder, of that of calls, and of the wrong units for either.
 inputs_sources=(box/batches.c box/call.c box/fields.c box/inputs.c)
@@ -58,6 +59,11 @@ calls() {
     grep -o '\<tahvenno_[a-z_]*(' include/tahvenno.h | tr -d '('
 }
 
+# The version, as the header has it.
+version() {
+    sed -n 's/^#define TAHVENNO_VERSION "\(.*\)"$/\1/p' include/tahvenno.h
+}
+
 # What an archive wants of other libraries; nothing, if all is well.
 wanted_by() { # archive
     nm -u "$1" | grep -v -e '^$' -e ':$'
@@ -74,9 +80,18 @@ kit_folder() {
     fi
 }
 
-# Runs a proved program of target/bin. They are for x86-64; on another machine the kit's emulator runs them over the kit's C library.
+# The kit's compiler, which is for this machine and compiles for both.
+kit_clang() {
+    local clang
+    clang=$(kit_folder)/on/$(uname -m)/toolchain/bin/clang
+    [ -x "$clang" ] || stop "the kit has no clang for this machine"
+    echo "$clang"
+}
+
+# Runs a proved program of target/bin, in whichever folder the script is then. They are for x86-64; on another machine the kit's
+# emulator runs them over the kit's C library.
 run_program() { # name, arguments
-    local tools program=target/bin/$1
+    local tools program=$root/target/bin/$1
     shift
     [ -x "$program" ] || stop "$program is not built"
     if [ "$(uname -m)" = x86_64 ]; then

@@ -1,9 +1,9 @@
 /* The writers of commands (document 02, T-10), watched like the other calls (stores.c).
  *
- * A command's 16 bytes may come by stores of any number, size and order, but each lies in the slots that are to be written. Those
- * of a batch all come before the one store of the control word, and that one is plain and of 64 bits, also where no command is
- * given. In the end the slots hold the commands' bytes, which are put together here by the layout of the papers, and every other
- * byte and word is as it was. A call that is refused stores nothing. */
+ * A command's 16 bytes come by 16 stores of one byte each, from the first byte on, and the commands of a batch in their order. All of
+ * them come before the one store of the control word, and that one is plain and of 64 bits, also where no command is given. In the
+ * end the slots hold the commands' bytes, which are put together here by the layout of the papers, and every other byte and word is
+ * as it was. A call that is refused stores nothing. */
 #include <inttypes.h>
 #include <stdio.h>
 #include <string.h>
@@ -35,7 +35,7 @@ enum { SLOT = 16, WRITER_REFUSALS = 3, BATCH_REFUSALS = 7 };
 static const uint64_t WRITER_NUMBERS[WRITER_REFUSALS] = {19, 20, 21}, BATCH_NUMBERS[BATCH_REFUSALS] = {1, 2, 3, 4, 20, 21, 22};
 
 static struct {
-    uint64_t commands, batches, queue_stores, widest;
+    uint64_t commands, batches, queue_stores;
     uint64_t empty, full, round, several, largest, late, part;
     uint64_t codes[CODES], batch_codes[CODES];
     uint64_t refused[WRITER_REFUSALS], batch_refused[BATCH_REFUSALS];
@@ -59,15 +59,24 @@ static int in_slots(const struct due *due, const struct queue_store *store) {
     return 1;
 }
 
+/* The byte of the queue that its store i is due to go to. */
+static size_t byte_due(const struct due *due, size_t i) {
+    return SLOT * ((due->first + i / SLOT) % due->slots) + i % SLOT;
+}
+
 static void compare_queue_stores(const char *name, const struct trace *trace, const struct due *due) {
+    size_t count = due->outcome.returned ? 0 : SLOT * due->written;
     for (size_t i = 0; i < trace->queue_count; i++) {
         const struct queue_store *store = &trace->queue_stores[i];
         if (due->outcome.returned) fail("%s: a store to the queue, byte %td, though it is refused", name, store->at);
         if (!in_slots(due, store))
             fail("%s: a store of %zu bytes to byte %td of the queue, in no slot that is due", name, store->size, store->at);
         if (store->after) fail("%s: a store to the queue, byte %td, after %zu to kept memory", name, store->at, store->after);
-        if (store->size > seen.widest) seen.widest = store->size;
+        if (i < count && (store->size != 1 || (size_t)store->at != byte_due(due, i)))
+            fail("%s: store %zu to the queue is of %zu bytes to byte %td, and should be of 1 to byte %zu", name, i + 1, store->size,
+                 store->at, byte_due(due, i));
     }
+    if (trace->queue_count != count) fail("%s: %zu stores to the queue, and should be %zu", name, trace->queue_count, count);
     seen.queue_stores += trace->queue_count;
 }
 
@@ -300,9 +309,9 @@ void check_writers(struct dice *dice, int rounds) {
 }
 
 void report_writers(void) {
-    printf("stores: %" PRIu64 " commands and %" PRIu64 " batches written, by %" PRIu64 " stores to the queue of up to %" PRIu64
-           " bytes, each in its slots and before the control word\n",
-           seen.commands, seen.batches, seen.queue_stores, seen.widest);
+    printf("stores: %" PRIu64 " commands and %" PRIu64 " batches written, by %" PRIu64
+           " stores to the queue of a byte each, in order and before the control word\n",
+           seen.commands, seen.batches, seen.queue_stores);
     printf("stores: of the batches %" PRIu64 " are empty, %" PRIu64 " of several commands, %" PRIu64 " fill the queue, %" PRIu64
            " of the largest; %" PRIu64 " go round its end; %" PRIu64 " are refused behind a legal command, %" PRIu64
            " for a part of one\n",

@@ -1,30 +1,49 @@
-/* Writers of commands whose stores are wrong (wrong.c). Without a fault they store a slot's bytes in other sizes and another order
- * than the unit, each slot its own way, and that is right. */
+/* Writers of commands whose stores are wrong (wrong.c). */
 #include <string.h>
 
 #include "tahvenno.h"
 #include "wrong.h"
 
-enum { SLOT = 16, WAYS = 6 };
+enum { SLOT = 16 };
+
+/* How a slot's bytes are stored: one by one, as they are due; by two, four or eight; all at once, from a pair of registers where
+ * there is one, or a vector; the last byte first; and the last one twice. */
+enum way { DUE, BY_TWO, BY_FOUR, BY_EIGHT, PAIRED, WHOLE, BACKWARDS, AGAIN };
 
 typedef uint16_t loose16 __attribute__((aligned(1), may_alias));
 typedef uint32_t loose32 __attribute__((aligned(1), may_alias));
 typedef uint64_t loose64 __attribute__((aligned(1), may_alias));
 
-/* Bytes of a slot by stores of this width, the last one first. */
-static void put_apart(uint8_t *slot, const uint8_t *bytes, size_t width) {
-    for (size_t at = SLOT; at > 0;) {
-        at -= width;
-        uint64_t value = 0;
-        memcpy(&value, bytes + at, width);
-        if (width == 1) *(volatile uint8_t *)(slot + at) = (uint8_t)value;
-        else if (width == 2) *(volatile loose16 *)(void *)(slot + at) = (uint16_t)value;
-        else if (width == 4) *(volatile loose32 *)(void *)(slot + at) = (uint32_t)value;
-        else *(volatile loose64 *)(void *)(slot + at) = value;
-    }
+static enum way command_way(void) {
+    if (fault("command-by-two")) return BY_TWO;
+    if (fault("command-by-four")) return BY_FOUR;
+    if (fault("command-by-eight")) return BY_EIGHT;
+    if (fault("command-paired")) return PAIRED;
+    if (fault("command-whole")) return WHOLE;
+    if (fault("command-backwards")) return BACKWARDS;
+    return fault("command-again") ? AGAIN : DUE;
 }
 
-/* All bytes by one store: of a pair of registers where there is one, else of a vector. */
+static enum way batch_way(void) {
+    if (fault("batch-by-two")) return BY_TWO;
+    if (fault("batch-by-four")) return BY_FOUR;
+    if (fault("batch-by-eight")) return BY_EIGHT;
+    if (fault("batch-paired")) return PAIRED;
+    if (fault("batch-whole")) return WHOLE;
+    if (fault("batch-backwards")) return BACKWARDS;
+    return fault("batch-again") ? AGAIN : DUE;
+}
+
+/* A slot's bytes from `at` on, by one store of this width. */
+static void put_at(uint8_t *slot, const uint8_t *bytes, size_t at, size_t width) {
+    uint64_t value = 0;
+    memcpy(&value, bytes + at, width);
+    if (width == 1) *(volatile uint8_t *)(slot + at) = (uint8_t)value;
+    else if (width == 2) *(volatile loose16 *)(void *)(slot + at) = (uint16_t)value;
+    else if (width == 4) *(volatile loose32 *)(void *)(slot + at) = (uint32_t)value;
+    else *(volatile loose64 *)(void *)(slot + at) = value;
+}
+
 static void put_whole(uint8_t *slot, const uint8_t *bytes, int paired) {
     uint64_t halves[2];
     memcpy(halves, bytes, SLOT);
@@ -38,16 +57,21 @@ static void put_whole(uint8_t *slot, const uint8_t *bytes, int paired) {
     both((uint64_t *)(void *)slot, 0, halves[0], halves[1]);
 }
 
-static void put_slot(uint8_t *slot, const uint8_t *bytes, size_t way) {
-    if (way % WAYS < 4) put_apart(slot, bytes, (size_t)1 << way % WAYS);
-    else put_whole(slot, bytes, way % WAYS == 4);
+static void put_slot(uint8_t *slot, const uint8_t *bytes, enum way way) {
+    size_t width = way <= BY_EIGHT ? (size_t)1 << way : 1;
+    if (way == PAIRED || way == WHOLE) {
+        put_whole(slot, bytes, way == PAIRED);
+        return;
+    }
+    for (size_t at = 0; at < SLOT; at += width) put_at(slot, bytes, way == BACKWARDS ? SLOT - 1 - at : at, width);
+    if (way == AGAIN) put_at(slot, bytes, SLOT - 1, 1);
 }
 
 static void put_swapped(uint8_t *slot, const uint8_t *bytes) {
     uint8_t turned[SLOT];
     memcpy(turned, bytes + SLOT / 2, SLOT / 2);
     memcpy(turned + SLOT / 2, bytes, SLOT / 2);
-    put_slot(slot, turned, 3);
+    put_slot(slot, turned, DUE);
 }
 
 /* Only the bytes that are not 0, as into a slot that was cleared. */
@@ -68,7 +92,6 @@ static void touch(const uint8_t *byte) {
 uint64_t __real_tahvenno_write_command(uint8_t *, size_t, const uint64_t *, uint64_t, uint64_t *);
 uint64_t __wrap_tahvenno_write_command(uint8_t *slot, size_t bytes, const uint64_t fields[16], uint64_t features,
                                        uint64_t answer[8]) {
-    static size_t way;
     uint8_t copy[SLOT];
     uint64_t returned = __real_tahvenno_write_command(copy, bytes, fields, features, answer);
     if (returned == 19 && bytes > SLOT && fault("command-any-length")) touch(slot);
@@ -76,7 +99,7 @@ uint64_t __wrap_tahvenno_write_command(uint8_t *slot, size_t bytes, const uint64
     if (returned) return returned;
     if (fault("command-sparing")) put_sparing(slot, copy);
     else if (fault("command-swapped")) put_swapped(slot, copy);
-    else put_slot(slot, copy, way++);
+    else put_slot(slot, copy, command_way());
     if (fault("command-beyond")) touch(slot + SLOT);
     if (fault("command-fields")) *(volatile uint64_t *)(uintptr_t)fields = fields[0];
     return 0;
@@ -114,14 +137,14 @@ static void ring_part(const struct batch *batch, size_t count) {
 
 static void put_batch(const struct batch *batch, size_t count) {
     for (size_t i = 0; i < count; i++) {
-        size_t next = batch->first + i, slot = next % batch->slots, from = slot;
+        size_t next = batch->first + (fault("batch-last-first") ? count - 1 - i : i), slot = next % batch->slots, from = slot;
         if (fault("batch-swapped") && count > 1 && i < 2) from = (batch->first + 1 - i) % batch->slots;
         uint8_t *to = batch->queue + SLOT * (fault("batch-not-round") ? next : slot);
         const uint8_t *bytes = batch->bytes + SLOT * from;
         if (fault("batch-rings-between") && i > 0 && i + 1 == count) store_ring(batch);
         if (fault("batch-sparing")) put_sparing(to, bytes);
         else if (fault("batch-last-byte") && i + 1 == count) put_but_last(to, bytes);
-        else put_slot(to, bytes, i);
+        else put_slot(to, bytes, batch_way());
         if (fault("batch-rings-each")) ring_part(batch, 1);
     }
 }
@@ -129,7 +152,8 @@ static void put_batch(const struct batch *batch, size_t count) {
 /* As a unit would that works on a copy of everything: what is not of the batch is stored as it was. */
 static void write_back(const struct batch *batch) {
     if (fault("batch-queue-back"))
-        for (size_t slot = 0; slot < batch->slots; slot++) put_slot(batch->queue + SLOT * slot, batch->bytes + SLOT * slot, 3);
+        for (size_t slot = batch->first + batch->count; slot < batch->first + batch->slots; slot++)
+            put_slot(batch->queue + SLOT * (slot % batch->slots), batch->bytes + SLOT * (slot % batch->slots), DUE);
     if (fault("batch-rows-back"))
         for (size_t at = 1; at < batch->words; at++) store(batch->kept, at, batch->kept[at]);
 }
@@ -139,7 +163,8 @@ static void store_batch(const struct batch *batch, const uint64_t *commands) {
     if (fault("batch-rings-first")) store_ring(batch);
     put_batch(batch, batch->count);
     write_back(batch);
-    if (fault("batch-next-slot")) touch(batch->queue + SLOT * ((batch->first + batch->count) % batch->slots));
+    if (fault("batch-next-slot") && batch->count < batch->slots)
+        touch(batch->queue + SLOT * ((batch->first + batch->count) % batch->slots));
     if (fault("batch-beyond")) *(volatile uint8_t *)(batch->queue + SLOT * batch->slots) = 0;
     if (fault("batch-row")) store(batch->kept, batch->words - 1, batch->kept[batch->words - 1]);
     if (fault("batch-commands")) *(volatile uint64_t *)(uintptr_t)commands = commands[0];
