@@ -12,15 +12,18 @@ pub use stores::written;
 pub use word::free;
 pub use word::is_empty;
 pub use word::is_full;
+pub use word::log2size_of;
 pub use word::oldest;
 pub use word::outstanding;
+pub use word::rd_of;
+pub use word::wr_of;
 ghost use mathlib.Core.Path.{_≡_};
 ghost use Prim.Native.Nat.{_+_, _*_, _≤_};
 ghost use lib.ListN.{length};
 ghost use Rattle.events.specs.Events.{maxLog2, recordAt, recordOf, isLong, log2Of, check};
 
 // The largest n.
-const MAX_LOG2: usize = 7;
+pub const MAX_LOG2: usize = 7;
 
 // The four words of a record.
 pub struct Record {

@@ -40,6 +40,27 @@ pub fn told(text: &[u8], w: [u64; 8]) {
     }
 }
 
+// A text with few words in it.
+pub fn one(text: &[u8], a: u64) {
+    told(text, [a, 0, 0, 0, 0, 0, 0, 0]);
+}
+
+pub fn two(text: &[u8], a: u64, b: u64) {
+    told(text, [a, b, 0, 0, 0, 0, 0, 0]);
+}
+
+pub fn three(text: &[u8], a: u64, b: u64, c: u64) {
+    told(text, [a, b, c, 0, 0, 0, 0, 0]);
+}
+
+// A word that picks the second part of {..|..}, or the first.
+pub fn bit(on: bool) -> u64 {
+    if on {
+        return 1;
+    }
+    0
+}
+
 // Says a text, words in hex, and the line's end.
 pub fn listed(text: &[u8], words: &[u64]) {
     say(text);
