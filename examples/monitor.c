@@ -3,56 +3,92 @@
  * access that misses is recorded as an event, and the event is read. */
 #include <inttypes.h>
 #include <stdio.h>
-#include "tahvenno.h"
+#include <stdlib.h>
+#include "tahvenno_rows.h"
 
-#define CMD_TLBI_NSNH_ALL 0x30 /* the guest's command: remove every stage 1 and stage 2 row */
-#define CMD_SYNC 0x46 /* with CS 1: interrupt the guest when it is done */
-#define F_TRANSLATION 0x10 /* the event's first byte; its fifth to eighth are the stream */
 #define FEATURES (TAHVENNO_S1P | TAHVENNO_S2P)
 #define WRITE_BACK TAHVENNO_NORMAL(TAHVENNO_WB, TAHVENNO_WB)
-#define FROM UINT64_C(0x1000)
+#define FROM UINT64_C(0x1000) /* a page, where it comes out, and an address in it */
 #define TO UINT64_C(0x8000)
+#define ADDRESS (FROM + 0x234)
+#define F_TRANSLATION 0x10 /* Arm's number of the event */
 
-enum { WORDS = TAHVENNO_WORDS(2), LOG2SIZE = 1, PAGE = 12, STREAM = 5, SUBSTREAM = 0 };
-enum { TABLE_WORDS = TAHVENNO_TABLE_WORDS(1) };
+enum { ROWS = 2, WORDS = TAHVENNO_WORDS(ROWS), LOG2SIZE = 1, STREAM = 5, SUBSTREAM = 0 };
+enum { REGIONS = 1, TABLE_WORDS = TAHVENNO_TABLE_WORDS(REGIONS) };
+enum { COMMANDS = 2, COMMANDS_WORDS = COMMANDS * TAHVENNO_COMMAND_WORDS };
 enum { N = 2, EVENT_WORDS = TAHVENNO_EVENT_WORDS(N) };
 
-static uint64_t ask(const uint64_t *kept, uint64_t *answer) { /* a write by the device of the stream, somewhere in the page */
-    return tahvenno_translate(kept, WORDS, STREAM, SUBSTREAM, FROM + 0x234, TAHVENNO_WRITE, WRITE_BACK, TAHVENNO_NSH, 0, answer);
+static void built(enum tahvenno_field bad) { /* what a builder returned */
+    if (bad == TAHVENNO_BUILT) return;
+    fprintf(stderr, "out of range: %s\n", tahvenno_field_name(bad));
+    exit(1);
+}
+
+static void made(uint64_t refusal) { /* what a call returned */
+    if (refusal == 0) return;
+    fprintf(stderr, "refused: %s\n", tahvenno_refusal_name(refusal));
+    exit(1);
+}
+
+static void fill(uint64_t *kept, uint64_t row, const uint64_t *w) {
+    uint64_t answer[TAHVENNO_ANSWER_WORDS];
+    made(tahvenno_fill(kept, WORDS, row, w[0], w[1], w[2], w[3], TAHVENNO_ROW_WORDS, answer));
+}
+
+static void fill_rows(uint64_t *kept) { /* the stream goes through stage 2, which maps the page */
+    struct tahvenno_ste ste = {.last_level = true, .stream = STREAM, .config = TAHVENNO_CONFIG_STAGE2};
+    struct tahvenno_stage2 page = {.last_level = true, .span = TAHVENNO_MIN_SPAN, .input = FROM, .output = TO,
+                                   .memattr = WRITE_BACK, .sh = TAHVENNO_ISH};
+    uint64_t row[TAHVENNO_ROW_WORDS];
+    built(tahvenno_build_ste(&ste, row));
+    fill(kept, 0, row);
+    built(tahvenno_build_stage2(&page, row));
+    fill(kept, 1, row);
+}
+
+static void ask(const uint64_t *kept, uint64_t *answer) { /* a write by the device of the stream */
+    made(tahvenno_translate(kept, WORDS, STREAM, SUBSTREAM, ADDRESS, TAHVENNO_WRITE, WRITE_BACK, TAHVENNO_NSH, 0, answer));
+}
+
+static void remove_rows(uint64_t *kept, uint64_t *answer) { /* the guest removes every stage 1 and stage 2 row */
+    static uint8_t queue[TAHVENNO_QUEUE_BYTES(LOG2SIZE)];
+    uint64_t commands[COMMANDS_WORDS], table[TABLE_WORDS]; /* the second table, of which this guest makes no use */
+    built(tahvenno_empty_table(table, REGIONS));
+    tahvenno_cmd_tlbi_nsnh_all(commands);
+    tahvenno_cmd_sync(commands + TAHVENNO_COMMAND_WORDS, TAHVENNO_CS_IRQ);
+    made(tahvenno_write_batch(kept, WORDS, queue, sizeof queue, commands, COMMANDS_WORDS, FEATURES, answer));
+    do { /* one store a call, as if power went after each */
+        made(tahvenno_run(kept, WORDS, table, TABLE_WORDS, queue, sizeof queue, FEATURES, 1, answer));
+    } while (answer[0] == TAHVENNO_CUT);
+}
+
+static void record_event(uint64_t *events, uint64_t *answer) {
+    struct tahvenno_record event = {.event = F_TRANSLATION, .stream = STREAM};
+    uint8_t record[TAHVENNO_RECORD_BYTES];
+    built(tahvenno_build_record(&event, record));
+    made(tahvenno_event_write(events, EVENT_WORDS, record, TAHVENNO_RECORD_STORES, answer));
 }
 
 int main(void) {
-    uint64_t kept[WORDS] = {TAHVENNO_PUT(TAHVENNO_LOG2SIZE, LOG2SIZE) | TAHVENNO_CMDQEN}; /* enabled, two slots; two empty rows */
-    uint8_t queue[TAHVENNO_QUEUE_BYTES(LOG2SIZE)] = {0};
-    const uint64_t commands[2 * TAHVENNO_COMMAND_WORDS] = {
-        [TAHVENNO_CMD_CODE] = CMD_TLBI_NSNH_ALL,
-        [TAHVENNO_COMMAND_WORDS + TAHVENNO_CMD_CODE] = CMD_SYNC,
-        [TAHVENNO_COMMAND_WORDS + TAHVENNO_CMD_CS] = 1,
-    };
-    uint64_t table[TABLE_WORDS] = {0}; /* the second table, which this guest has no use for: one empty row */
-    uint64_t events[EVENT_WORDS] = {TAHVENNO_PUT(TAHVENNO_EVENT_N, N)}; /* an empty recorder of four slots */
-    const uint8_t record[TAHVENNO_RECORD_BYTES] = {[0] = F_TRANSLATION, [4] = STREAM};
-    uint64_t answer[TAHVENNO_ANSWER_WORDS], refused = 0;
-    uint64_t ste = TAHVENNO_ROW(TAHVENNO_STE) | TAHVENNO_LAST_LEVEL;
-    uint64_t ste_1 = TAHVENNO_PUT(TAHVENNO_STREAM, STREAM) | TAHVENNO_PUT(TAHVENNO_CONFIG, TAHVENNO_CONFIG_STAGE2);
-    uint64_t page = TAHVENNO_ROW(TAHVENNO_STAGE2) | TAHVENNO_LAST_LEVEL | TAHVENNO_PUT(TAHVENNO_SPAN, PAGE) |
-                    TAHVENNO_PUT(TAHVENNO_MEMATTR, WRITE_BACK) | TAHVENNO_PUT(TAHVENNO_SH, TAHVENNO_ISH);
-    refused |= tahvenno_fill(kept, WORDS, 0, ste, ste_1, 0, 0, TAHVENNO_ROW_WORDS, answer);
-    refused |= tahvenno_fill(kept, WORDS, 1, page, 0, FROM, TO, TAHVENNO_ROW_WORDS, answer);
-    refused |= ask(kept, answer);
-    printf("before: outcome %" PRIu64 ", address %" PRIx64 "\n", answer[0], answer[1]);
-    refused |= tahvenno_write_batch(kept, WORDS, queue, sizeof queue, commands, 2 * TAHVENNO_COMMAND_WORDS, FEATURES, answer);
-    do { /* one store a call, as if power went after each */
-        refused |= tahvenno_run(kept, WORDS, table, TABLE_WORDS, queue, sizeof queue, FEATURES, 1, answer);
-    } while (refused == 0 && answer[0] == TAHVENNO_CUT);
-    if (kept[0] & TAHVENNO_PENDING) { /* no matter which of these calls consumed the CMD_SYNC; raised first, then cleared */
+    uint64_t kept[WORDS], events[EVENT_WORDS], answer[TAHVENNO_ANSWER_WORDS];
+    struct tahvenno_control control;
+    struct tahvenno_record event;
+    built(tahvenno_empty_kept(kept, ROWS, LOG2SIZE, true));
+    built(tahvenno_empty_recorder(events, N));
+    fill_rows(kept);
+    ask(kept, answer);
+    printf("before: %s, %" PRIx64 "\n", tahvenno_outcome_name(answer[0]), answer[1]);
+    remove_rows(kept, answer);
+    tahvenno_read_control(kept[0], &control);
+    if (control.pending) { /* no matter which run consumed the CMD_SYNC; raised first, then cleared */
         printf("interrupt\n");
-        refused |= tahvenno_clear_pending(kept, WORDS, answer);
+        made(tahvenno_clear_pending(kept, WORDS, answer));
     }
-    refused |= ask(kept, answer);
-    printf("after: outcome %" PRIu64 "\n", answer[0]);
-    if (answer[0] != TAHVENNO_ADDRESS) refused |= tahvenno_event_write(events, EVENT_WORDS, record, TAHVENNO_RECORD_STORES, answer);
-    refused |= tahvenno_event_read(events, EVENT_WORDS, answer);
-    printf("event: %" PRIx64 "\n", answer[0]);
-    return refused != 0;
+    ask(kept, answer);
+    printf("after: %s\n", tahvenno_outcome_name(answer[0]));
+    if (answer[0] != TAHVENNO_ADDRESS) record_event(events, answer);
+    made(tahvenno_event_read(events, EVENT_WORDS, answer));
+    tahvenno_read_record(answer, &event);
+    printf("event: %" PRIx64 " of stream %" PRIu64 "\n", event.event, event.stream);
+    return 0;
 }

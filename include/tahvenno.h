@@ -1,6 +1,6 @@
 /*
  * Tahvenno: the command queue, the cached rows, the cached regions of a device permission table and the translation of an emulated
- * Arm SMMUv3, and a recorder of its events.
+ * Arm SMMUv3, and a recorder of its events. tahvenno_rows.h builds the words that are lent from named fields, and takes them apart.
  *
  * MEMORY. The caller owns everything. `kept` points to the kept memory, `words` 64-bit words: one control word, then rows of four
  * words, 1 to TAHVENNO_MAX_ROWS of them; their layout is below. `table` points to the second table, `table_words` words: rows of
@@ -16,7 +16,7 @@
  *   - No pointer is null, also where a length is 0. What is lent to one call does not overlap, but for `original` and `proposed`.
  *   - kept, table, events, fields, commands and answer are aligned to 8 bytes. The queue, a slot, a batch and a record may stand anywhere in
  *     Normal memory; where a load or store that is not aligned faults (Device memory, alignment checking), align them to 8 bytes
- *     too: compiled code loads and stores several of their bytes at once.
+ *     too: compiled code loads several of their bytes at once.
  *   - Until a call returns nobody else writes to what is lent to it. So lend a run a private copy of the guest's queue, or stop the
  *     guest: bytes that change during a call are outside the proof.
  *   - One call at a time on one kept memory and its second table, and on one recorder. docs/BOX.md has the rules for an agent that
@@ -68,8 +68,8 @@
  * with 8, an acknowledge with 6 and a clear_pending with 12, a run that raised ends Held, and a doorbell, an enable or a disable
  * stores the same word again.
  *
- * The stores are plain ones with no barrier between them. docs/BOX.md says what the memory, or the caller, has to do so that
- * they arrive in this order.
+ * The stores to kept memory, second table, recorder, queue and slot are volatile: the code makes each of them by itself and in this
+ * order. There is no barrier between them. docs/BOX.md says what the memory, or the caller, has to do so that they arrive in it.
  *
  * WALK AND FILL. No run may come between the first read of a walk of the guest's tables and the last store of its fill, cut or
  * no cut: the run may consume the command for a change that the walk did not see, and the fill would then make the old mapping
@@ -162,11 +162,11 @@
  * for a run with the same features. That goes for an ASID or VMID of more than 8 bits without TAHVENNO_ASID16 or TAHVENNO_VMID16
  * too: it is written, and removes nothing. Bits that a run does not look at are written as 0.
  *
- * write_batch has no allowance. It stores every byte of its commands before the control word, in single stores of any size, and to
- * no other slot. So if power goes inside it and WR has not moved, the queue, where it survives, holds a part of them in free slots,
- * of which no run knows; call it again from the start. If WR has moved, the batch was sent, and called again it is there twice, or
- * is refused with 22. docs/BOX.md has what to do where the bytes could arrive after the control word. A batch that was refused has
- * written nothing. A batch of no commands stores the control word as it is.
+ * write_batch has no allowance. It stores every byte of its commands before the control word, by one store each, the first one
+ * first, and to no other slot. So if power goes inside it and WR has not moved, the queue, where it survives, holds a part of them
+ * in free slots, of which no run knows; call it again from the start. If WR has moved, the batch was sent, and called again it is
+ * there twice, or is refused with 22. docs/BOX.md has what to do where the bytes could arrive after the control word. A batch that
+ * was refused has written nothing. A batch of no commands stores the control word as it is.
  *
  * THE RECORDER is a ring of records of 32 bytes, in words of its own; no call takes both these and the kept memory. event_write
  * makes 5 stores: the record's four words, the first one first, to the slot at WR, then the index word with WR one further. Until
@@ -216,6 +216,12 @@
 #include <stddef.h>
 #include <stdint.h>
 
+/* The version: MAJOR changes when a caller has to change something, MINOR when something came, PATCH when neither did. */
+#define TAHVENNO_VERSION_MAJOR 1
+#define TAHVENNO_VERSION_MINOR 0
+#define TAHVENNO_VERSION_PATCH 0
+#define TAHVENNO_VERSION "1.0.0"
+
 #ifdef __cplusplus
 extern "C" {
 #endif
@@ -225,10 +231,12 @@ extern "C" {
 #define TAHVENNO_MAX_ROWS 1000
 #define TAHVENNO_ROW_WORDS 4
 #define TAHVENNO_WORDS(rows) (1 + TAHVENNO_ROW_WORDS * (rows))
+#define TAHVENNO_ROW_AT(row) TAHVENNO_WORDS(row) /* where a row, counted from 0, has its word 0 */
 #define TAHVENNO_MAX_LOG2SIZE 12
 #define TAHVENNO_MAX_REGIONS 128
 #define TAHVENNO_REGION_WORDS 2
 #define TAHVENNO_TABLE_WORDS(rows) (TAHVENNO_REGION_WORDS * (rows))
+#define TAHVENNO_REGION_AT(row) TAHVENNO_TABLE_WORDS(row)
 #define TAHVENNO_MAX_STORES (TAHVENNO_MAX_ROWS + TAHVENNO_MAX_REGIONS + (1 << TAHVENNO_MAX_LOG2SIZE))
 #define TAHVENNO_SLOT_BYTES 16
 #define TAHVENNO_QUEUE_BYTES(log2size) ((size_t)TAHVENNO_SLOT_BYTES << (log2size))
@@ -287,6 +295,10 @@ extern "C" {
 #define TAHVENNO_EVENT_ACKNOWLEDGED TAHVENNO_BITS(41, 41)
 #define TAHVENNO_EVENT_N TAHVENNO_BITS(46, 42)
 
+/* The first word of a record, as IHI 0070 has it: the event's number and the StreamID. The unit does not look at records. */
+#define TAHVENNO_RECORD_EVENT TAHVENNO_BITS(7, 0)
+#define TAHVENNO_RECORD_STREAM TAHVENNO_BITS(63, 32)
+
 /*
  * A row. It is empty if word 0 is 0, whatever the other words are. Else valid is 1, and every part not named here is 0:
  *
@@ -316,6 +328,7 @@ extern "C" {
 #define TAHVENNO_SPAN TAHVENNO_BITS(10, 5)
 #define TAHVENNO_EL2 TAHVENNO_BITS(11, 11)
 #define TAHVENNO_EL2_E2H TAHVENNO_BITS(12, 12)
+#define TAHVENNO_MARK (TAHVENNO_EL2 | TAHVENNO_EL2_E2H) /* as one number: 0 none, 1 EL2, 2 EL2_E2H */
 #define TAHVENNO_VMID TAHVENNO_BITS(31, 16)
 #define TAHVENNO_ASID TAHVENNO_BITS(47, 32)
 /* word 0, the payload of a last-level STE row */
@@ -333,6 +346,12 @@ extern "C" {
 #define TAHVENNO_STREAM TAHVENNO_BITS(31, 0)
 #define TAHVENNO_SUBSTREAM TAHVENNO_BITS(51, 32)
 #define TAHVENNO_CONFIG TAHVENNO_BITS(54, 52)
+/* words 2 and 3: the lower half of the input addresses, and all output addresses; the upper half is from ~TAHVENNO_LOWER_HALF on */
+#define TAHVENNO_LOWER_HALF TAHVENNO_BITS(51, 0)
+
+/* Spans of stage 1 and stage 2 rows. */
+#define TAHVENNO_MIN_SPAN 12
+#define TAHVENNO_MAX_SPAN 48
 
 /*
  * A row of the second table: word 0, then the base. It is empty if word 0 is 0, whatever the base is. Else valid is 1, the size is
@@ -377,6 +396,8 @@ enum {
 enum { TAHVENNO_DEVICE_NGNRNE, TAHVENNO_DEVICE_NGNRE, TAHVENNO_DEVICE_NGRE, TAHVENNO_DEVICE_GRE };
 enum { TAHVENNO_NC = 1, TAHVENNO_WT = 2, TAHVENNO_WB = 3 };
 #define TAHVENNO_NORMAL(outer, inner) (4 * (outer) + (inner))
+#define TAHVENNO_OUTER(memattr) ((memattr) / 4)
+#define TAHVENNO_INNER(memattr) ((memattr) % 4)
 
 /* SH, 2 bits; 1 is ill formed. */
 enum { TAHVENNO_NSH = 0, TAHVENNO_OSH = 2, TAHVENNO_ISH = 3 };
@@ -390,6 +411,11 @@ enum {
     TAHVENNO_OUTER_WA = 16,
     TAHVENNO_OUTER_TR = 32
 };
+
+/* What an STE row overrides by SHCFG, INSTCFG and PRIVCFG. */
+enum { TAHVENNO_SHCFG_NSH, TAHVENNO_SHCFG_INCOMING, TAHVENNO_SHCFG_OSH, TAHVENNO_SHCFG_ISH };
+enum { TAHVENNO_INSTCFG_INCOMING, TAHVENNO_INSTCFG_DATA = 2, TAHVENNO_INSTCFG_INSTRUCTION };
+enum { TAHVENNO_PRIVCFG_INCOMING, TAHVENNO_PRIVCFG_UNPRIVILEGED = 2, TAHVENNO_PRIVCFG_PRIVILEGED };
 
 /* Bits of `features`: what the emulated unit has, and E2H as the guest has set it (SMMU_CR2.E2H). The others are not looked at. */
 #define TAHVENNO_S1P UINT64_C(1)
@@ -419,6 +445,38 @@ enum {
     TAHVENNO_CMD_TTL128,
     TAHVENNO_CMD_SIZE
 };
+
+/* What an Address in word TAHVENNO_CMD_ADDRESS is shifted down by: its low 12 bits. */
+#define TAHVENNO_ADDRESS_SHIFT 12
+
+/* The codes of the commands, by Arm's names. */
+enum {
+    TAHVENNO_CODE_PREFETCH_CONFIG = 0x01,
+    TAHVENNO_CODE_PREFETCH_ADDR = 0x02,
+    TAHVENNO_CODE_CFGI_STE = 0x03,
+    TAHVENNO_CODE_CFGI_STE_RANGE = 0x04,
+    TAHVENNO_CODE_CFGI_CD = 0x05,
+    TAHVENNO_CODE_CFGI_CD_ALL = 0x06,
+    TAHVENNO_CODE_TLBI_NH_ALL = 0x10,
+    TAHVENNO_CODE_TLBI_NH_ASID = 0x11,
+    TAHVENNO_CODE_TLBI_NH_VA = 0x12,
+    TAHVENNO_CODE_TLBI_NH_VAA = 0x13,
+    TAHVENNO_CODE_TLBI_EL2_ALL = 0x20,
+    TAHVENNO_CODE_TLBI_EL2_ASID = 0x21,
+    TAHVENNO_CODE_TLBI_EL2_VA = 0x22,
+    TAHVENNO_CODE_TLBI_EL2_VAA = 0x23,
+    TAHVENNO_CODE_TLBI_S12_VMALL = 0x28,
+    TAHVENNO_CODE_TLBI_S2_IPA = 0x2A,
+    TAHVENNO_CODE_TLBI_NSNH_ALL = 0x30,
+    TAHVENNO_CODE_SYNC = 0x46,
+    TAHVENNO_CODE_DPTI_ALL = 0x70,
+    TAHVENNO_CODE_DPTI_PA = 0x73
+};
+
+/* A Range of code 04 that is every stream; CS of code 46; granules of a range, TG, of which 0 is none. */
+#define TAHVENNO_EVERY_STREAM 31
+enum { TAHVENNO_CS_NONE, TAHVENNO_CS_IRQ, TAHVENNO_CS_SEV };
+enum { TAHVENNO_TG_4KB = 1, TAHVENNO_TG_16KB, TAHVENNO_TG_64KB };
 
 /* How a run ends, in answer[0]. */
 enum { TAHVENNO_OFF, TAHVENNO_HELD, TAHVENNO_EMPTY, TAHVENNO_RAISED, TAHVENNO_CUT };

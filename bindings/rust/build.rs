@@ -1,0 +1,14 @@
+//! Tells cargo where `libtahvenno.a` is: in TAHVENNO_LIB_DIR, or where `box/build` puts it, or `box/install`.
+use std::env;
+use std::path::PathBuf;
+
+fn main() {
+    let own = |name| env::var(name).expect("cargo sets it");
+    let below = |folder| PathBuf::from(own("CARGO_MANIFEST_DIR")).join(folder).join(own("CARGO_CFG_TARGET_ARCH"));
+    let installed = below("../../../lib/tahvenno");
+    let found = if installed.is_dir() { installed } else { below("../../target/box") };
+    let folder = env::var_os("TAHVENNO_LIB_DIR").map(PathBuf::from).unwrap_or(found);
+    println!("cargo:rerun-if-env-changed=TAHVENNO_LIB_DIR");
+    println!("cargo:rerun-if-changed={}", folder.join("libtahvenno.a").display());
+    println!("cargo:rustc-link-search=native={}", folder.display());
+}
