@@ -8,6 +8,7 @@ import tempfile
 sys.dont_write_bytecode = True
 import cited
 import refusals
+import version
 import writes
 
 FAILED = []
@@ -186,6 +187,30 @@ def folders():
         expect('a second step', writes.main(os.path.join(root, 'crates')) == 1)
 
 
+def versions():
+    header = '#define TAHVENNO_VERSION_MAJOR 1\n#define TAHVENNO_VERSION_MINOR 2\n#define TAHVENNO_VERSION_PATCH 3\n#define TAHVENNO_VERSION "1.2.3"\n'
+    files = {
+        'include/tahvenno.h': header,
+        'README.md': '# Name\n\nVersion 1.2.3, and not 1.0.0.\n',
+        'CHANGELOG.md': '# Changes\n\n## 1.2.3, today\n\n## 1.2.2, before\n',
+        'bindings/rust/Cargo.toml': '[package]\nversion = "1.2.3"\nedition = "2021"\n',
+    }
+    with tempfile.TemporaryDirectory() as root:
+        for path, text in list(files.items())[:3]:
+            write(root, path, text)
+        expect('one version, no crate', version.agree(version.named(root)))
+        write(root, 'bindings/rust/Cargo.toml', files['bindings/rust/Cargo.toml'])
+        expect('one version', version.agree(version.named(root)))
+        for path, text in files.items():
+            write(root, path, text.replace('1.2.3', '1.2.4'))
+            expect('another version in ' + path, not version.agree(version.named(root)))
+            write(root, path, text.replace('1.2.3', ''))
+            expect('no version in ' + path, not version.agree(version.named(root)))
+            write(root, path, text)
+        write(root, 'include/tahvenno.h', header.replace('PATCH 3', 'PATCH 4'))
+        expect('other numbers in the header', not version.agree(version.named(root)))
+
+
 citations()
 logs()
 groups()
@@ -193,6 +218,7 @@ stores()
 evasions()
 allowed()
 folders()
+versions()
 for what in FAILED:
     print('test_checks: ' + what)
 print('test_checks: %d wrong' % len(FAILED))
