@@ -5,8 +5,8 @@ and may name something in that file after a colon:
   words/specs/Parts.antt:part       a definition, theorem or record of a specification or proof file
   words/src/lib.rt:word_at          a function, constant, struct or enum of a source file
   cases/stdout:length 5             a case, by its label
-  words/must-fail/power_twice.edit  a file
-  words/must-fail/apart_1.edit:put_at_the_wrong_bit   one of the edits of a file that holds several
+  words/must-fail/put_at_the_wrong_bit.edit  a file
+  words/must-fail/apart_2.edit:power_twice   one of the edits of a file that holds several
 """
 import os
 import re

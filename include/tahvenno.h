@@ -317,8 +317,8 @@ extern "C" {
  *
  * Only last-level rows without a mark answer a transaction, and of several the lowest. The payload of an STE row overrides what
  * comes in: MTCFG 1 takes STE_MEMATTR. SHCFG 0 NSH, 1 as it comes, 2 OSH, 3 ISH. ALLOCCFG, if its bit 3 is set, puts its bits 2, 1,
- * 0 as RA, WA, TR into both halves that are cacheable. INSTCFG 2 data, 3 instruction, else as it comes; a write is always data.
- * PRIVCFG 2 unprivileged, 3 privileged, else as it comes.
+ * 0 as RA, WA, TR into both halves that are cacheable. INSTCFG 2 makes it data, 3 an instruction, 0 and 1 leave it; a write is data
+ * whatever it says. PRIVCFG likewise, 2 unprivileged, 3 privileged.
  */
 /* word 0 */
 #define TAHVENNO_VALID TAHVENNO_BITS(0, 0)

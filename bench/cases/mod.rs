@@ -46,7 +46,7 @@ impl Size {
     }
 }
 
-/// S1P, S2P, ASID16, VMID16: all but Hyp and RIL.
+/// S1P, S2P, ASID16, VMID16: all but Hyp, RIL and DPT.
 pub const GUEST_FEATURES: u64 = 15;
 /// For commands with a range.
 pub const RIL: u64 = 1 << 5;

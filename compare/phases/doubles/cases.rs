@@ -58,7 +58,7 @@ fn fill(row: u64, words: Words, allowance: u64) -> Call<'static> {
     }
 }
 
-/// The same stream for STE, stream and substream for CD; no row that isn't
+/// STE rows double by their stream, CD rows by both identifiers; no row that isn't
 /// last-level, and none of another kind.
 fn streams(checker: &mut Checker) {
     let ste = [STE, 0x40, 0, 0];
@@ -113,7 +113,7 @@ fn pages(checker: &mut Checker) {
     }
 }
 
-/// Equal VMID, and at stage 1 equal ASID or either row global.
+/// One VMID; for stage 1 also one ASID, unless a row is global.
 fn spaces(checker: &mut Checker) {
     for input in [0, TOP] {
         let page = |bits| [PAGE | bits, 0, input, 0];

@@ -305,7 +305,7 @@ fn met(checker: &mut Checker) {
     }
 }
 
-/// A range that would pass the top of the 64-bit space ends there.
+/// Ranges that reach the top of the 64-bit space.
 fn top(checker: &mut Checker) {
     let rows = [
         [PAGE, 0, 0, 0],

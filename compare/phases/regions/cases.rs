@@ -273,8 +273,7 @@ fn row(checker: &mut Checker, words: Pair, good: bool) {
     }
 }
 
-/// Valid, last-level, the ten sizes, "zero above"; "the base, below 2^52 and a multiple
-/// of its size".
+/// Both low bits, the ten sizes and the bits above them; bases at their width and alignment.
 fn formed(checker: &mut Checker) {
     for (word, size) in SIZES {
         for base in [0, size, (1 << 52) - size] {
@@ -353,7 +352,7 @@ fn refused(checker: &mut Checker) {
     expect(checker, (&kept, &[0, 0]), misfit, (4, &[0]), &[0, 0]);
 }
 
-/// "A row is filled base first, under refusals 7 to 9 read for this table."
+/// The base is stored before word 0; refusals 7 to 9 as for kept rows.
 fn filled(checker: &mut Checker) {
     let words = [PAGE, 0x7000];
     let kept = [0, 0, 0, 0, 0];
@@ -433,7 +432,7 @@ fn left_of(base: [u64; 6], left: [u64; 6]) -> [u64; 6] {
     }
 }
 
-/// "Both counts in document 01's sums include the second table": 70, then 30, then a
+/// Stores and removed rows count regions too: 70, then 30, then a
 /// CMD_SYNC over a stage 1 row and two regions.
 fn counted(checker: &mut Checker) {
     let kept = [1 << 49 | 3 << 20 | 2 << 50, 0x185, 0, 0, 0];
@@ -458,7 +457,7 @@ fn counted(checker: &mut Checker) {
     }
 }
 
-/// "Rows go first and the control word last, across both tables."
+/// Regions go before RD moves, as kept rows do.
 fn ordered(checker: &mut Checker) {
     let queue = queue(&[(0x70, 0)]);
     let table = [PAGE, 0];
