@@ -20,6 +20,7 @@ use Rattle.rows.specs.declared.Row.{Row}
 use Rattle.rows.specs.Rows as rows
 use Rattle.image.specs.Image.{rowAt}
 use Rattle.screens.specs.declared.Screen.{Screen}
+use Rattle.screens.specs.Places.{streamMask, answerMask, answerVmidMask, ofAnswer}
 use Rattle.screens.specs.Screens.{named, reaching, passes, passesAt}
 use Rattle.screens.proofs.Answerers.{answers-used, stream-named, stage-word, stage-marked}
 use Rattle.screens.proofs.Asking.{lets-through}
@@ -41,13 +42,13 @@ module _ (words row : Row) (fits : row .w2 < 2 ^ 64) where
       (omega arith, omega arith)
 
   module _ (b : Both words row) where
-    stream-screened : (k : ℕ) → eqb (rows.kind words) k ≡ true → sameStream words row ≡ true → named 0x180e (8 + k * 2) 0xffffffff (rows.stream words) row ≡ true
+    stream-screened : (k : ℕ) → eqb (rows.kind words) k ≡ true → sameStream words row ≡ true → named answerMask (ofAnswer k) streamMask (rows.stream words) row ≡ true
     stream-screened k e s =
         stream-named row (b .second-answers) k (rows.stream words) (8 + k * 2) (sym (b .one-kind) ∙ eqb-true (rows.kind words) k e)
         (sym (eqb-true (rows.stream words) (rows.stream row) s)) refl
 
     stage-screened : sharesStage words row ≡ true
-        → reaching 0xffff180e (bitAnd (words .w0) 0xffff180e) ((words .w2 + moreBytes words) % 2 ^ 64) (moreBytes words) row ≡ true
+        → reaching answerVmidMask (bitAnd (words .w0) answerVmidMask) ((words .w2 + moreBytes words) % 2 ^ 64) (moreBytes words) row ≡ true
     unfolding sharesAddress
     stage-screened e =
         let k = rows.kind words in
@@ -60,7 +61,7 @@ module _ (words row : Row) (fits : row .w2 < 2 ^ 64) where
         and-true
         (and-true (answers-used row (b .second-answers))
         (shares-about row a (moreBytes words) fits (enough .0) (omega (arith, enough .1, first-ends-later a n (row .w2) m near)) (second-ends-later a n (row .w2) m near)))
-        (stage-marked row (b .second-answers) k i (bitAnd (words .w0) 0xffff180e) (sym (b .one-kind)) (sym (eqb-true i (rows.vmid row) (left own (sharesAddress words row) e)))
+        (stage-marked row (b .second-answers) k i (bitAnd (words .w0) answerVmidMask) (sym (b .one-kind)) (sym (eqb-true i (rows.vmid row) (left own (sharesAddress words row) e)))
         (stage-word words (b .first-answers) k i _ refl refl refl))
 
     by-ste : eqb (rows.kind words) rows.ste ≡ true → passes (screenOf words) row ≡ true

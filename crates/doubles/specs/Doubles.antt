@@ -13,6 +13,7 @@ use Rattle.words.specs.declared.Found.the-variants.{At, Nothing}
 use Rattle.rows.specs.declared.Row.{Row}
 use Rattle.rows.specs.Rows as rows
 use Rattle.image.specs.Image.{rowAt}
+use Rattle.screens.specs.Places.{streamMask, answerMask, answerVmidMask, ofAnswer}
 use Rattle.screens.specs.declared.Screen.{Screen}
 use Rattle.screens.specs.declared.Screen.the-variants.{Named, Reaching}
 
@@ -54,9 +55,9 @@ moreBytes words = 2 ^ rows.span words - 1
 
 unfoldable pub screenOf : Row → Screen
 screenOf words =
-    pick (eqb (rows.kind words) rows.ste) (Named 0x180e 0x8 0xffffffff (rows.stream words))
-    (pick (eqb (rows.kind words) rows.cd) (Named 0x180e 0xa 0xffffffff (rows.stream words))
-    (Reaching 0xffff180e (bitAnd (words .w0) 0xffff180e) ((words .w2 + moreBytes words) % 2 ^ 64) (moreBytes words)))
+    pick (eqb (rows.kind words) rows.ste) (Named answerMask (ofAnswer rows.ste) streamMask (rows.stream words))
+    (pick (eqb (rows.kind words) rows.cd) (Named answerMask (ofAnswer rows.cd) streamMask (rows.stream words))
+    (Reaching answerVmidMask (bitAnd (words .w0) answerVmidMask) ((words .w2 + moreBytes words) % 2 ^ 64) (moreBytes words)))
 
 abbrev pub isFound : Found → Bool
 isFound (At i) = true

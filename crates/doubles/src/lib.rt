@@ -3,6 +3,7 @@ use rows::Row;
 use rows::kinds;
 use screens::Screen;
 use screens::answering;
+use screens::places;
 use words::Found;
 ghost use mathlib.Core.Path.{_≡_};
 ghost use Prim.Native.Nat.{_+_, _*_, _≤_};
@@ -82,10 +83,10 @@ fn screen_of(words: Row) -> Screen
     let kind = rows::kind_of(words);
     let stream = rows::stream_of(words);
     if kind == kinds::STE {
-        return Screen::Named(answering::KIND, answering::STE, answering::STREAM, stream);
+        return Screen::Named(answering::KIND, answering::STE, places::STREAM, stream);
     }
     if kind == kinds::CD {
-        return Screen::Named(answering::KIND, answering::CD, answering::STREAM, stream);
+        return Screen::Named(answering::KIND, answering::CD, places::STREAM, stream);
     }
     let more = words::power(rows::span_of(words)) - 1;
     Screen::Reaching(

@@ -226,6 +226,7 @@ def damaged():
     case('table-file-too-long', kept=small, table=data(TABLE + NO_REGION * 126))
     case('bad-recorder-length', kept=small, events=data(index(rd=0, wr=1, n=1) + RECORDS + RECORDS[:4] + [5]))
     case('bad-index-word', kept=small, events=data(index(rd=0, wr=3, n=1, overflow=1, acknowledged=1) + RECORDS))
+    case('overflow-of-a-bad-index-word', kept=small, events=data(index(rd=0, wr=3, n=1, overflow=1) + RECORDS))
     case('recorder-of-another-n', kept=small, events=data(index(rd=0, wr=1, n=2) + RECORDS))
     case('empty-recorder', kept=small, events=b'')
 

@@ -1,6 +1,7 @@
 // What a person should look at, and why.
 use crate::files;
 use commands::Features;
+use events::Checked;
 use rows::Row;
 use rows::kinds;
 use rows::marks;
@@ -166,7 +167,11 @@ fn marked_told(i: u64, row: Row) -> bool {
     true
 }
 
+// Of a recorder that is accepted.
 fn dropped(events: &[u64]) -> bool {
+    if let Checked::Refused(_) = events::check(events) {
+        return false;
+    }
     if !events::outstanding(files::first(events)) {
         return false;
     }

@@ -3,7 +3,6 @@ use crate::files;
 use crate::files::Size;
 use text::one;
 use text::say;
-use text::three;
 use text::two;
 use words::Found;
 

@@ -3,12 +3,10 @@
 use mathlib.Core.Path.{_≡_, refl}
 use mathlib.Core.Bool.{true, _&&_, _||_}
 use mathlib.Core.List.{List}
-use Prim.Native.Nat.{ℕ, _+_, _*_, _^_}
+use Prim.Native.Nat.{ℕ, _+_}
 use native.Mathlib.Omega.{arith}
 use lib.Dec.{eqb}
 use borrow.Author.Tests.{eqb-true}
-use Rattle.words.specs.Parts.{part}
-use Rattle.words.proofs.Parts.{part-lt}
 use Rattle.words.proofs.Search.{Wider}
 use Rattle.words.proofs.Truth.{left, right, and-true}
 use Rattle.rows.specs.declared.Row.{Row}
@@ -16,28 +14,24 @@ use Rattle.rows.specs.Rows as rows
 use Rattle.rows.proofs.Covering.{covers-means}
 use Rattle.image.specs.Image.{rowsIn, rowAt}
 use Rattle.screens.specs.declared.Screen.{Screen}
+use Rattle.screens.specs.Places.{answerVmidMask, ofAnswer, ofVmid}
 use Rattle.screens.specs.Screens.{passes, passesAt, covering}
-use Rattle.screens.proofs.Answerers.{answers-used, stream-named, stage-marked}
+use Rattle.screens.proofs.Answerers.{vmid-placed, answers-used, stream-named, stage-marked}
 use Rattle.screens.proofs.Asking.{lets-through}
 use Rattle.screens.proofs.Distances.{covers-near}
 use Rattle.lookups.specs.declared.Wanted.{Wanted}
 use Rattle.lookups.specs.declared.Wanted.the-variants.{Ste, Cd, Stage1, Stage2}
-use Rattle.lookups.specs.Lookups.{fits, answers, answersAt, vmidInPlace, screenOf}
+use Rattle.lookups.specs.Lookups.{fits, answers, answersAt, screenOf}
 use Rattle.lookups.proofs.Laws.{only-answerers, answers-fits}
 
 module _ (row : Row) where
-  -- a row's VMID has 16 bits, so its place has room for all of it
-  vmid-placed : (v : ℕ) → rows.vmid row ≡ v → vmidInPlace v ≡ v * 2 ^ 16
-  unfolding part
-  vmid-placed v e = omega (arith, e, part-lt rows.vmidBits (row .w0))
-
   -- of either stage
   stage-covering : (k v a : ℕ) → rows.mayAnswer row ≡ true → rows.kind row ≡ k → rows.vmid row ≡ v → rows.covers row a ≡ true
-      → covering 0xffff180e (8 + k * 2 + vmidInPlace v) a row ≡ true
+      → covering answerVmidMask (ofAnswer k + ofVmid v) a row ≡ true
   stage-covering k v a m e d c =
       let within = covers-means row a c in
       and-true (and-true (answers-used row m) (covers-near row a (within .0) (within .1)))
-      (stage-marked row m k v (8 + k * 2 + vmidInPlace v) e d (let p = vmid-placed v d in omega (arith, p)))
+      (stage-marked row m k v (ofAnswer k + ofVmid v) e d (let p = vmid-placed row v d in omega (arith, p)))
 
   module _ (may : rows.mayAnswer row ≡ true) where
     ste-screened : (s : ℕ) → fits (Ste s) row ≡ true → passes (screenOf (Ste s)) row ≡ true
@@ -45,7 +39,7 @@ module _ (row : Row) where
     ste-screened s e =
         let k = eqb (rows.kind row) rows.ste in
         let t = eqb (rows.stream row) s in
-        stream-named row may rows.ste s 0x8 (eqb-true (rows.kind row) rows.ste (left k t e)) (eqb-true (rows.stream row) s (right k t e)) refl
+        stream-named row may rows.ste s (ofAnswer rows.ste) (eqb-true (rows.kind row) rows.ste (left k t e)) (eqb-true (rows.stream row) s (right k t e)) refl
 
     cd-screened : (s b : ℕ) → fits (Cd s b) row ≡ true → passes (screenOf (Cd s b)) row ≡ true
     unfolding fits
@@ -53,7 +47,7 @@ module _ (row : Row) where
         let k = eqb (rows.kind row) rows.cd in
         let t = eqb (rows.stream row) s in
         let both = left (k && t) (eqb (rows.substream row) b) e in
-        stream-named row may rows.cd s 0xa (eqb-true (rows.kind row) rows.cd (left k t both)) (eqb-true (rows.stream row) s (right k t both)) refl
+        stream-named row may rows.cd s (ofAnswer rows.cd) (eqb-true (rows.kind row) rows.cd (left k t both)) (eqb-true (rows.stream row) s (right k t both)) refl
 
     stage1-screened : (v s a : ℕ) → fits (Stage1 v s a) row ≡ true → passes (screenOf (Stage1 v s a)) row ≡ true
     unfolding fits

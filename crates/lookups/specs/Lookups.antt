@@ -1,16 +1,16 @@
 -- Document 01, A transaction, and document 02, T-05: the row that answers a step.
 -- Assumes nothing.
-use Prim.Native.Nat.{ℕ, _+_, _*_, _^_}
+use Prim.Native.Nat.{ℕ, _+_}
 use mathlib.Core.Bool.{Bool, _&&_, _||_}
 use mathlib.Core.List.{List}
 use lib.Dec.{eqb}
-use Rattle.words.specs.Parts.{part}
 use Rattle.words.specs.Search.{lowest}
 use Rattle.words.specs.declared.Found.{Found}
 use Rattle.words.specs.declared.Found.the-variants.{At, Nothing}
 use Rattle.rows.specs.declared.Row.{Row}
 use Rattle.rows.specs.Rows as rows
 use Rattle.image.specs.Image.{rowsIn, rowAt}
+use Rattle.screens.specs.Places.{streamMask, answerMask, answerVmidMask, ofAnswer, ofVmid}
 use Rattle.screens.specs.declared.Screen.{Screen}
 use Rattle.screens.specs.declared.Screen.the-variants.{Named, Covering}
 use Rattle.lookups.specs.declared.Wanted.{Wanted}
@@ -38,15 +38,12 @@ answers w row = rows.mayAnswer row && fits w row
 unfoldable pub answersAt : List ℕ → Wanted → ℕ → Bool
 answersAt m w i = answers w (rowAt m i)
 
--- Document 02, T-13: what a row must be like to answer; no promise cites these
-abbrev pub vmidInPlace : ℕ → ℕ
-vmidInPlace vmid = part 15 0 vmid * 2 ^ 16
-
+-- Document 02, T-13: what a row must be like to answer; no promise cites this
 abbrev pub screenOf : Wanted → Screen
-screenOf (Ste stream) = Named 0x180e 0x8 0xffffffff stream
-screenOf (Cd stream substream) = Named 0x180e 0xa 0xffffffff stream
-screenOf (Stage1 vmid asid address) = Covering 0xffff180e (0xc + vmidInPlace vmid) address
-screenOf (Stage2 vmid address) = Covering 0xffff180e (0xe + vmidInPlace vmid) address
+screenOf (Ste stream) = Named answerMask (ofAnswer rows.ste) streamMask stream
+screenOf (Cd stream substream) = Named answerMask (ofAnswer rows.cd) streamMask stream
+screenOf (Stage1 vmid asid address) = Covering answerVmidMask (ofAnswer rows.stage1 + ofVmid vmid) address
+screenOf (Stage2 vmid address) = Covering answerVmidMask (ofAnswer rows.stage2 + ofVmid vmid) address
 
 -- the place of the lowest-numbered such row
 unfoldable pub find : List ℕ → Wanted → Found

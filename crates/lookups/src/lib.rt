@@ -3,12 +3,13 @@ use rows::Row;
 use rows::kinds;
 use screens::Screen;
 use screens::answering;
+use screens::places;
 use words::Found;
 ghost use mathlib.Core.Path.{_≡_};
-ghost use Prim.Native.Nat.{_+_, _*_, _^_, _≤_};
+ghost use Prim.Native.Nat.{_+_, _*_, _≤_};
 ghost use lib.ListN.{length};
 ghost use Rattle.image.specs.Image.{rowsIn};
-ghost use Rattle.lookups.specs.Lookups.{fits, answers, answersAt, vmidInPlace, screenOf, find, look};
+ghost use Rattle.lookups.specs.Lookups.{fits, answers, answersAt, screenOf, find, look};
 
 // What a step looks for: the STE row of a stream, the CD row of a stream and a substream, the stage 1 row of a VMID,
 // an ASID and an address, the stage 2 row of a VMID and an address.
@@ -60,32 +61,25 @@ fn answers_at(kept: &[u64], w: Wanted, i: usize) -> bool
     answers(w, image::row_at(kept, i))
 }
 
-// A VMID in its place in word 0. A row's has 16 bits, so no row answers a wider one, and any screen is right for it.
-fn vmid_in_place(vmid: u64) -> u64
-    ensures { λ r. ⌜ (r ≡ vmidInPlace vmid) × (r ≤ 2 ^ 32) ⌝ }
-{
-    words::part(vmid, 15, 0) * 0x1_0000
-}
-
 // What a row must be like to answer.
 fn screen_of(w: Wanted) -> Screen
     ensures { λ r. ⌜ r ≡ screenOf w ⌝ }
 {
     match w {
         Wanted::Ste(stream) => {
-            Screen::Named(answering::KIND, answering::STE, answering::STREAM, stream)
+            Screen::Named(answering::KIND, answering::STE, places::STREAM, stream)
         }
         Wanted::Cd(stream, _) => {
-            Screen::Named(answering::KIND, answering::CD, answering::STREAM, stream)
+            Screen::Named(answering::KIND, answering::CD, places::STREAM, stream)
         }
         Wanted::Stage1(vmid, _, address) => Screen::Covering(
             answering::KIND_VMID,
-            answering::STAGE1 + vmid_in_place(vmid),
+            answering::STAGE1 + places::of_vmid(vmid),
             address,
         ),
         Wanted::Stage2(vmid, address) => Screen::Covering(
             answering::KIND_VMID,
-            answering::STAGE2 + vmid_in_place(vmid),
+            answering::STAGE2 + places::of_vmid(vmid),
             address,
         ),
     }

@@ -109,22 +109,22 @@ module _ (w : World) (a : Accepted w) (bytes : List ℕ) where
   pub write-needs-five : isFull (indexOf (w .recorder)) ≡ false → Needs unit 5 (EventWrite bytes) w
   write-needs-five room =
       record {
-        cut-below = λ k h. rw (room-part (w .recorder) bytes k (a .slots) (recorder-of w a) room h) refl;
-        done-from = λ k h cut. stored-uncut (rw (room-whole (w .recorder) bytes k (a .slots) (recorder-of w a) room h) at cut);
+        cut-below = λ k h. rw (room-part (w .recorder) bytes k (a .log2) (recorder-of w a) room h) refl;
+        done-from = λ k h cut. stored-uncut (rw (room-whole (w .recorder) bytes k (a .log2) (recorder-of w a) room h) at cut);
       }
 
   pub full-write-needs-one : isFull (indexOf (w .recorder)) ≡ true → outstanding (indexOf (w .recorder)) ≡ false → Needs unit 1 (EventWrite bytes) w
   full-write-needs-one full t =
       record {
-        cut-below = λ k h. rw (full-cut (w .recorder) bytes k (a .slots) (recorder-of w a) full t (omega arith)) refl;
-        done-from = λ k h cut. dropped-uncut (rw (full-tells (w .recorder) bytes k (a .slots) (recorder-of w a) full t (omega arith)) at cut);
+        cut-below = λ k h. rw (full-cut (w .recorder) bytes k (a .log2) (recorder-of w a) full t (omega arith)) refl;
+        done-from = λ k h cut. dropped-uncut (rw (full-tells (w .recorder) bytes k (a .log2) (recorder-of w a) full t (omega arith)) at cut);
       }
 
   pub told-write-needs-none : isFull (indexOf (w .recorder)) ≡ true → outstanding (indexOf (w .recorder)) ≡ true → Needs unit 0 (EventWrite bytes) w
   told-write-needs-none full t =
       record {
         cut-below = λ k h. absurd (omega arith);
-        done-from = λ k h cut. dropped-uncut (rw (full-told (w .recorder) bytes k (a .slots) (recorder-of w a) full t) at cut);
+        done-from = λ k h cut. dropped-uncut (rw (full-told (w .recorder) bytes k (a .log2) (recorder-of w a) full t) at cut);
       }
 
 -- a call that has no allowance: none

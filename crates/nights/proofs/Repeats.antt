@@ -210,12 +210,12 @@ module _ (w : World) (a : Accepted w) (k : ℕ) where
   abbrev read-left : World
   read-left = tried EventRead k w .memory
 
-  left-accepted : recorders.Accepts (read-left .recorder) (a .slots)
-  left-accepted = one-store.read-accepted (w .recorder) (a .slots) (recorder-of w a)
+  left-accepted : recorders.Accepts (read-left .recorder) (a .log2)
+  left-accepted = one-store.read-accepted (w .recorder) (a .log2) (recorder-of w a)
 
   pub read-again-none : waiting (read-left .recorder) ≡ [] → Refuses 17 EventRead read-left
   read-again-none none =
-      let e = read-none (read-left .recorder) (a .slots) left-accepted none in
+      let e = read-none (read-left .recorder) (a .log2) left-accepted none in
       record {
         told = λ j. rw e;
         stays = λ j. ap (λ (l : List ℕ). record { kept = w .kept; table = w .table; recorder = l }) (one-store.read-refused-leaves (read-left .recorder) NoneWaits e);
@@ -223,7 +223,7 @@ module _ (w : World) (a : Accepted w) (k : ℕ) where
 
   module _ (r : Record) (rest : List Record) (some : waiting (read-left .recorder) ≡ r ∷ rest) where
     pub read-again-next : (j : ℕ) → tried EventRead j read-left .answer ≡ Oldest r
-    read-again-next j = reads-first (read-left .recorder) (a .slots) left-accepted r rest some
+    read-again-next j = reads-first (read-left .recorder) (a .log2) left-accepted r rest some
 
     pub read-again-changes : (j : ℕ) → tried EventRead j read-left .memory ≡ read-left → ⊥
     read-again-changes j same =
@@ -240,12 +240,12 @@ module _ (w : World) (a : Accepted w) (k : ℕ) (bytes : List ℕ) where
   abbrev write-left : World
   write-left = tried (EventWrite bytes) k w .memory
 
-  write-left-accepted : recorders.Accepts (write-left .recorder) (a .slots)
-  write-left-accepted = write-accepted (w .recorder) bytes k (a .slots) (recorder-of w a)
+  write-left-accepted : recorders.Accepts (write-left .recorder) (a .log2)
+  write-left-accepted = write-accepted (w .recorder) bytes k (a .log2) (recorder-of w a)
 
   module _ (room : isFull (indexOf (write-left .recorder)) ≡ false) (j : ℕ) (h : 5 ≤ j) where
     pub stored-again : Ends Stored (tried (EventWrite bytes) j write-left .answer)
-    stored-again = rw (room-whole (write-left .recorder) bytes j (a .slots) write-left-accepted room h) refl
+    stored-again = rw (room-whole (write-left .recorder) bytes j (a .log2) write-left-accepted room h) refl
 
     pub stored-twice : Ends Stored (tried (EventWrite bytes) k w .answer)
         → waiting (tried (EventWrite bytes) j write-left .memory .recorder) ≡ (waiting (w .recorder) ++ (recordOf bytes ∷ [])) ++ (recordOf bytes ∷ [])
@@ -263,8 +263,8 @@ module _ (w : World) (a : Accepted w) (k : ℕ) (bytes : List ℕ) where
   stored-then-dropped full j h = by-flag (outstanding (indexOf (write-left .recorder))) refl
     where
       by-flag : (b : Bool) → outstanding (indexOf (write-left .recorder)) ≡ b → Ends Dropped (tried (EventWrite bytes) j write-left .answer)
-      by-flag true t = rw (full-told (write-left .recorder) bytes j (a .slots) write-left-accepted full t) refl
-      by-flag false t = rw (full-tells (write-left .recorder) bytes j (a .slots) write-left-accepted full t (omega arith)) refl
+      by-flag true t = rw (full-told (write-left .recorder) bytes j (a .log2) write-left-accepted full t) refl
+      by-flag false t = rw (full-tells (write-left .recorder) bytes j (a .log2) write-left-accepted full t (omega arith)) refl
 
   -- the drop stores nothing if an overflow is outstanding already
   pub dropped-untold : isFull (indexOf (write-left .recorder)) ≡ true → outstanding (indexOf (write-left .recorder)) ≡ true
@@ -272,7 +272,7 @@ module _ (w : World) (a : Accepted w) (k : ℕ) (bytes : List ℕ) where
   dropped-untold full t =
       let m′ = write-left .recorder in
       let e : (j : ℕ) → write m′ bytes j ≡ with (DidWrite (record { end = Dropped; stores = 0 })) m′ =
-      λ j. full-told m′ bytes j (a .slots) write-left-accepted full t in
+      λ j. full-told m′ bytes j (a .log2) write-left-accepted full t in
       record {
         told = λ j. ap (λ (o : Outcome (List ℕ) WriteAnswer). o .answer) (e j);
         stays = λ j. ap (λ (o : Outcome (List ℕ) WriteAnswer). inRecorder w o .memory) (e j);
@@ -281,7 +281,7 @@ module _ (w : World) (a : Accepted w) (k : ℕ) (bytes : List ℕ) where
   -- else the index word is stored, with OVERFLOW turned
   pub dropped-told : isFull (indexOf (write-left .recorder)) ≡ true → outstanding (indexOf (write-left .recorder)) ≡ false → (j : ℕ) → 1 ≤ j
       → tried (EventWrite bytes) j write-left .memory .recorder ≡ set (write-left .recorder) 0 (flipped (indexOf (write-left .recorder)))
-  dropped-told full t j h = rw (full-tells (write-left .recorder) bytes j (a .slots) write-left-accepted full t (omega arith)) refl
+  dropped-told full t j h = rw (full-tells (write-left .recorder) bytes j (a .log2) write-left-accepted full t (omega arith)) refl
 
   -- a Dropped one is dropped, with no store: no word changes
   still-full : Ends Dropped (tried (EventWrite bytes) k w .answer) → isFull (indexOf (write-left .recorder)) ≡ true

@@ -52,23 +52,23 @@ module _ (w : World) (a : Accepted w) where
   pub table-of : tables.Accepts (w .table) (a .parts)
   table-of = tables.says (w .table) .accepted (a .parts) (a .table)
 
-  pub recorder-of : recorders.Accepts (w .recorder) (a .slots)
-  recorder-of = recorders.says (w .recorder) .accepted (a .slots) (a .recorder)
+  pub recorder-of : recorders.Accepts (w .recorder) (a .log2)
+  recorder-of = recorders.says (w .recorder) .accepted (a .log2) (a .recorder)
 
   pub memory-of : memory.Accepts (memoryOf w) (a .rows + a .parts)
   memory-of = memory.accepts-both (memoryOf w) (a .rows) (a .parts) image-of table-of
 
   kept-stays : (m : List ℕ) → images.Accepts m (a .rows) → Accepted (record { kept = m; table = w .table; recorder = w .recorder })
   kept-stays m b =
-      record { rows = a .rows; kept = images.accepts m (a .rows) b; parts = a .parts; table = a .table; slots = a .slots; recorder = a .recorder }
+      record { rows = a .rows; kept = images.accepts m (a .rows) b; parts = a .parts; table = a .table; log2 = a .log2; recorder = a .recorder }
 
   table-stays : (t : List ℕ) → tables.Accepts t (a .parts) → Accepted (record { kept = w .kept; table = t; recorder = w .recorder })
   table-stays t b =
-      record { rows = a .rows; kept = a .kept; parts = a .parts; table = tables.accepts t (a .parts) b; slots = a .slots; recorder = a .recorder }
+      record { rows = a .rows; kept = a .kept; parts = a .parts; table = tables.accepts t (a .parts) b; log2 = a .log2; recorder = a .recorder }
 
-  recorder-stays : (m : List ℕ) → recorders.Accepts m (a .slots) → Accepted (record { kept = w .kept; table = w .table; recorder = m })
+  recorder-stays : (m : List ℕ) → recorders.Accepts m (a .log2) → Accepted (record { kept = w .kept; table = w .table; recorder = m })
   recorder-stays m b =
-      record { rows = a .rows; kept = a .kept; parts = a .parts; table = a .table; slots = a .slots; recorder = recorders.accepts m (a .slots) b }
+      record { rows = a .rows; kept = a .kept; parts = a .parts; table = a .table; log2 = a .log2; recorder = recorders.accepts m (a .log2) b }
 
   memory-stays : (m : Memory) (n : ℕ) → memory.Accepts m n → Accepted (record { kept = m .kept; table = m .table; recorder = w .recorder })
   memory-stays m n b =
@@ -77,7 +77,7 @@ module _ (w : World) (a : Accepted w) where
         kept = images.accepts (m .kept) (b .first) (b .image);
         parts = b .second;
         table = tables.accepts (m .table) (b .second) (b .regions);
-        slots = a .slots;
+        log2 = a .log2;
         recorder = a .recorder;
       }
 
@@ -146,7 +146,7 @@ module _ (bytes : List ℕ) where
   unfolding rewritten
   write-retries =
       record {
-        keeps = λ k w a. recorder-stays w a (write (w .recorder) bytes k .memory) (write-accepted (w .recorder) bytes k (a .slots) (recorder-of w a));
+        keeps = λ k w a. recorder-stays w a (write (w .recorder) bytes k .memory) (write-accepted (w .recorder) bytes k (a .log2) (recorder-of w a));
         whole = λ k w a last. ap (inRecorder w) (write-as-uncut bytes [] k 5 (w .recorder) none-written last (write-enough (w .recorder)));
         resumes = λ k w a cut.
             ap (inRecorder w)
@@ -233,7 +233,7 @@ retries ClearPending =
 retries (EventWrite bytes) = write-retries bytes
 retries EventRead =
     record {
-      keeps = λ k w a. recorder-stays w a (unit .tried EventRead k w .memory .recorder) (read-accepted (w .recorder) (a .slots) (recorder-of w a));
+      keeps = λ k w a. recorder-stays w a (unit .tried EventRead k w .memory .recorder) (read-accepted (w .recorder) (a .log2) (recorder-of w a));
       whole = λ k w a last. refl;
       resumes = λ k w a cut. absurd cut;
       suffices = λ w a cut. cut;
@@ -241,7 +241,7 @@ retries EventRead =
 retries EventAcknowledge =
     record {
       keeps = λ k w a.
-          recorder-stays w a (unit .tried EventAcknowledge k w .memory .recorder) (event-acknowledge-accepted (w .recorder) (a .slots) (recorder-of w a));
+          recorder-stays w a (unit .tried EventAcknowledge k w .memory .recorder) (event-acknowledge-accepted (w .recorder) (a .log2) (recorder-of w a));
       whole = λ k w a last. refl;
       resumes = λ k w a cut. absurd cut;
       suffices = λ w a cut. cut;

@@ -180,5 +180,5 @@ pub record Accepted (w : World) : Type 0 where
   pub kept : image.check (w .kept) ≡ image·Accepted rows
   pub parts : ℕ
   pub table : regions.check (w .table) ≡ regions·Accepted parts
-  pub slots : ℕ
-  pub recorder : events.check (w .recorder) ≡ events·Accepted slots
+  pub log2 : ℕ
+  pub recorder : events.check (w .recorder) ≡ events·Accepted log2

@@ -93,7 +93,7 @@ module _ (f : Features) (queue : List ℕ) (n : ℕ) where
   moves : (m m′ : Memory) (w : What) → Accepts m n → dueIn f queue m ≡ stores w m′ → Moves m m′ w
   moves m m′ w a e = let d = is-due f queue m w m′ e in by-case m m′ w a d (d .kind)
 
-  -- used rows before equal used rows after plus rows removed
+  -- as many used rows fewer as were removed
   pub used-sum : (k : ℕ) (m : Memory) → Accepts m n → usedRows m n ≡ usedRows (run f queue k m .memory) n + run f queue k m .ran .removed
   used-sum k m a =
       removed-sum (dueIn f queue) (λ x. Accepts x n) (store-accepted f queue n) (λ x. usedRows x n) (λ x x′ w p e. moves x x′ w p e .used) k m a

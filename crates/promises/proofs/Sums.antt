@@ -32,7 +32,7 @@ module _ {M : Type 0} (f : M → Next M) where
   adds-next k m (stores (Consume y) m′) ih = omega (arith, ih m′)
   adds-next k m (stores (Raise told) m′) ih = refl
 
-  -- stores are rows removed plus commands consumed, plus one if Raised
+  -- one store a row, one a command, and one more where it raises
   pub stores-add-up : (k : ℕ) (m : M) → runBy f k m .ran .stores ≡ runBy f k m .ran .removed + runBy f k m .ran .consumed + raise (runBy f k m .ran .end)
   unfolding runBy
   stores-add-up zero m = adds-last m (f m)

@@ -31,7 +31,7 @@ abbrev pub eventAcknowledgeNumber : AcknowledgeAnswer → ℕ
 eventAcknowledgeNumber (NotAcknowledged why) = calls.acknowledgeNumber why
 eventAcknowledgeNumber Acknowledged = 0
 
--- the index word is ill formed, or holds another n than the length's
+-- no index word of a recorder of this length
 abbrev pub illFormed : Found → ℕ → Bool
 illFormed (At n) w = not (wellFormed n w)
 illFormed Nothing w = false

@@ -19,7 +19,7 @@ pub enum End {
     Cut,
 }
 
-// What a run did: commands consumed, stores made, rows removed, and consumed CMD_SYNCs with CS 1.
+// What a run did, counted: commands, stores, rows that went, and among the commands the CMD_SYNCs with CS 1.
 pub struct Ran {
     pub end: End,
     pub consumed: u64,

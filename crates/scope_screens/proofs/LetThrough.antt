@@ -1,17 +1,17 @@
 -- Every row in a command's scope passes the command's screen.
 -- Assumes nothing.
-use mathlib.Core.Path.{_≡_, refl, sym, ap, ap₂, _∙_}
-use mathlib.Core.Bool.{Bool, true, false, not, _&&_, _||_}
-use mathlib.Core.Logic.{_⊎_, inl, inr, ⊎-elim}
-use Prim.Native.Nat.{ℕ, zero, suc, _+_, _-_, _*_, _/_, _%_, _^_, _≤_, _<_, max}
-use native.Mathlib.Nat.{mod-eq-of-lt, div-one}
+use mathlib.Core.Path.{_≡_, refl, sym, _∙_}
+use mathlib.Core.Bool.{true, false, not, _&&_, _||_}
+use mathlib.Core.List.{[], _∷_}
+use mathlib.Core.Logic.{_⊎_, ⊎-elim}
+use Prim.Native.Nat.{ℕ, _+_, _-_, _*_, _/_, _^_, _≤_, _<_, max}
+use native.Mathlib.Nat.{div-one}
 use native.Mathlib.Omega.{arith}
-use lib.Bits.{bitAnd, bitOr, bitXor, xor-self}
-use lib.Dec.{eqb, ltb}
-use borrow.Author.Tests.{eqb-true, eqb-false, eq-eqb, ne-eqb, ltb-false, not-true}
-use Rattle.words.specs.Choice.{pick}
+use lib.Bits.{bitAnd, bitOr, bitXor}
+use lib.Dec.{eqb}
+use borrow.Author.Tests.{eqb-true, eqb-false, eq-eqb, not-true}
 use Rattle.words.specs.Parts.{part}
-use Rattle.words.specs.Ranges.{Range, get, width}
+use Rattle.words.specs.Ranges.{Range, get}
 use Rattle.words.proofs.Parts.{part-lt}
 use Rattle.words.proofs.Truth.{left, right, either, clash, decided, less-or-not}
 use Rattle.rows.specs.declared.Row.{Row}
@@ -21,24 +21,19 @@ use Rattle.commands.specs.declared.Target.{Target}
 use Rattle.commands.specs.declared.Command.{Command}
 use Rattle.commands.specs.declared.Command.the-variants.{PrefetchConfig, PrefetchAddr, CfgiSte, CfgiSteRange, CfgiCd, CfgiCdAll, TlbiNhAll, TlbiNhAsid, TlbiNhVa, TlbiNhVaa, TlbiEl2All, TlbiEl2Asid, TlbiEl2Va, TlbiEl2Vaa, TlbiS12Vmall, TlbiS2Ipa, TlbiNsnhAll, Sync, DptiAll, DptiPa}
 use Rattle.scopes.specs.declared.Block.{Block}
-use Rattle.scopes.specs.Scopes.{spared, meets, one, steBlock, openBits, ranged, steOf, cdOf, cdAt, ofStage, stageOf, ownOf, isE2h, stageAt, ownAt, hasAsid, isStage, removes, regime, inRegime, inScope}
+use Rattle.scopes.specs.Scopes.{spared, meets, one, steBlock, openBits, ranged, steOf, cdOf, cdAt, ofStage, stageOf, ownOf, isE2h, stageAt, ownAt, hasAsid, removes, regime, inRegime, inScope}
 use Rattle.scopes.specs.Ranges.{tgOf, firstOf, lengthOf, reaches}
 use Rattle.scopes.proofs.Laws.{Scoped, scoped}
 use Rattle.scopes.proofs.Ranges.{single-length}
-use Rattle.screens.specs.declared.Screen.{Screen}
-use Rattle.screens.specs.declared.Screen.the-variants.{Marked, Named, Covering, Reaching}
+use Rattle.screens.specs.declared.Screen.the-variants.{Marked}
+use Rattle.screens.specs.Places.{maskOf, stagesBits, ofKind, ofMark, ofVmid, ofAsid}
 use Rattle.screens.specs.Screens.{marked, named, streaming, near, about, passes}
-use Rattle.screens.proofs.Answerers.{stream-under}
+use Rattle.screens.proofs.Answerers.{vmid-placed, asid-placed, stream-under}
 use Rattle.screens.proofs.Distances.{covers-near, shares-about}
-use Rattle.scope_screens.specs.ScopeScreens.{idAt16, regimeAt, aimed, ofBlock, ofContext, screenOf}
+use Rattle.scope_screens.specs.ScopeScreens.{kindMask, ownMask, ownAsidMask, stageMask, stageAsidMask, eitherMask, anyMask, regimeAt, aimed, ofBlock, ofContext, screenOf}
 use Rattle.scope_screens.proofs.Words as word
 use Rattle.scope_screens.proofs.Near.{begins, ends, below-top, length-small}
 use Rattle.scope_screens.proofs.Near.{open-fits}
-
--- an identifier that a row has is its own low sixteen bits
-same-id : (v x : ℕ) → x < 2 ^ 16 → x ≡ v → part 15 0 v ≡ x
-unfolding part
-same-id v x h e = ap (λ (y : ℕ). y % 2 ^ 16) (div-one v ∙ sym e) ∙ mod-eq-of-lt h
 
 -- a bit that is not 1
 not-one : (x : ℕ) → x < 2 → eqb x 1 ≡ false → x ≡ 0
@@ -62,18 +57,18 @@ module _ (row : Row) where
 
   record Staged (k v : ℕ) : Type 0 where
     unmarked : Unmarked k
-    id : part 15 0 v ≡ rows.vmid row
+    vmid : rows.vmid row ≡ v
 
   staged : (k v : ℕ) → stageOf row k v ≡ true → Staged k v
   unfolding stageOf
   staged k v e =
       record {
         unmarked = of-stage k (left (ofStage row k) (eqb (rows.vmid row) v) e);
-        id = same-id v (rows.vmid row) (part-lt rows.vmidBits (row .w0)) (eqb-true (rows.vmid row) v (right (ofStage row k) (eqb (rows.vmid row) v) e));
+        vmid = eqb-true (rows.vmid row) v (right (ofStage row k) (eqb (rows.vmid row) v) e);
       }
 
-  asid-is : (a : ℕ) → hasAsid row a ≡ true → part 15 0 a ≡ rows.asid row
-  asid-is a e = same-id a (rows.asid row) (part-lt rows.asidBits (row .w0)) (eqb-true (rows.asid row) a e)
+  asid-is : (a : ℕ) → hasAsid row a ≡ true → rows.asid row ≡ a
+  asid-is a e = eqb-true (rows.asid row) a e
 
   not-global : not (rows.isGlobal row) ≡ true → get rows.globalBits (row .w0) ≡ 0
   not-global e = not-one (get rows.globalBits (row .w0)) (part-lt rows.globalBits (row .w0)) (not-true (rows.isGlobal row) e)
@@ -83,17 +78,17 @@ module _ (row : Row) where
   own-kind e = eqb-true (rows.kind row) 2 (left (eqb (rows.kind row) 2) (not (rows.isUnmarked row)) e)
 
   -- a stage's rows of a VMID
-  stage-marked : (k v : ℕ) → stageOf row k v ≡ true → bitAnd (row .w0) 0xffff1806 ≡ k * 2 + idAt16 v
+  stage-marked : (k v : ℕ) → stageOf row k v ≡ true → bitAnd (row .w0) stageMask ≡ ofKind k + ofVmid v
   stage-marked k v e =
       let s = staged k v e in
-      word.stage-is (row .w0) k (rows.vmid row) (k * 2 + idAt16 v) (s .unmarked .kind) (s .unmarked .mark) refl (omega (arith, s .id))
+      word.stage-is (row .w0) k v (ofKind k + ofVmid v) (s .unmarked .kind) (s .unmarked .mark) (s .vmid) (omega (arith, vmid-placed row v (s .vmid)))
 
-  either-marked : (k v : ℕ) → k / 2 ≡ 1 → stageOf row k v ≡ true → bitAnd (row .w0) 0xffff1804 ≡ 4 + idAt16 v
+  either-marked : (k v : ℕ) → k / 2 ≡ 1 → stageOf row k v ≡ true → bitAnd (row .w0) eitherMask ≡ ofKind rows.stage1 + ofVmid v
   either-marked k v u e =
       let s = staged k v e in
-      word.either-is (row .w0) k (rows.vmid row) (4 + idAt16 v) (s .unmarked .kind) u (s .unmarked .mark) refl (omega (arith, s .id))
+      word.either-is (row .w0) k v (ofKind rows.stage1 + ofVmid v) (s .unmarked .kind) u (s .unmarked .mark) (s .vmid) (omega (arith, vmid-placed row v (s .vmid)))
 
-  any-marked : (k : ℕ) → k / 2 ≡ 1 → ofStage row k ≡ true → bitAnd (row .w0) 0x1804 ≡ 4
+  any-marked : (k : ℕ) → k / 2 ≡ 1 → ofStage row k ≡ true → bitAnd (row .w0) anyMask ≡ ofKind rows.stage1
   any-marked k u e = let s = of-stage k e in word.any-is (row .w0) k (s .kind) u (s .mark)
 
   -- a row that a command by address reaches
@@ -114,17 +109,17 @@ module _ (row : Row) where
           rw (n, used, shares-about row (firstOf t) (lengthOf t - 1) (below-top t row e) (length-small t) (omega (arith, ends t row e)) (begins t row e))
           (marked-so mask value d)
 
-  stage-aimed : (k v : ℕ) (t : Target) → rows.isEmpty row ≡ false → stageAt row k v t ≡ true → passes (aimed 0xffff1806 (k * 2 + idAt16 v) t) row ≡ true
+  stage-aimed : (k v : ℕ) (t : Target) → rows.isEmpty row ≡ false → stageAt row k v t ≡ true → passes (aimed stageMask (ofKind k + ofVmid v) t) row ≡ true
   unfolding stageAt
   stage-aimed k v t used e =
-      aimed-passes 0xffff1806 (k * 2 + idAt16 v) t used (stage-marked k v (left (stageOf row k v) (reaches t row) e)) (right (stageOf row k v) (reaches t row) e)
+      aimed-passes stageMask (ofKind k + ofVmid v) t used (stage-marked k v (left (stageOf row k v) (reaches t row) e)) (right (stageOf row k v) (reaches t row) e)
 
-  own-aimed : (f : Features) (t : Target) → rows.isEmpty row ≡ false → ownAt row t ≡ true → eqb (rows.mark row) (regime f) ≡ true → passes (aimed 0x1806 (4 + regimeAt f) t) row ≡ true
+  own-aimed : (f : Features) (t : Target) → rows.isEmpty row ≡ false → ownAt row t ≡ true → eqb (rows.mark row) (regime f) ≡ true → passes (aimed ownMask (ofKind rows.stage1 + regimeAt f) t) row ≡ true
   unfolding ownAt
   own-aimed f t used e r =
       let own = left (ownOf row) (reaches t row) e in
-      aimed-passes 0x1806 (4 + regimeAt f) t used
-      (word.own-is (row .w0) 2 (rows.mark row) (4 + regimeAt f) (own-kind own) refl (omega (arith, eqb-true (rows.mark row) (regime f) r)))
+      aimed-passes ownMask (ofKind rows.stage1 + regimeAt f) t used
+      (word.own-is (row .w0) 2 (rows.mark row) (ofKind rows.stage1 + regimeAt f) (own-kind own) refl (omega (arith, eqb-true (rows.mark row) (regime f) r)))
       (right (ownOf row) (reaches t row) e)
 
   -- rows of a stream, or of a block of streams
@@ -142,7 +137,7 @@ module _ (row : Row) where
   unfolding streaming
   of-config k s j used kind u d =
       let x = bitXor (bitAnd (row .w1) (2 ^ 32 - 2 ^ k)) (s / 2 ^ k * 2 ^ k) / 2 ^ rows.span row in
-      rw used (eq-eqb (bitOr (bitAnd (row .w0) 4) x) 0 (both-none (word.config-is (row .w0) j kind u) d))
+      rw used (eq-eqb (bitOr (bitAnd (row .w0) (maskOf (stagesBits ∷ []))) x) 0 (both-none (word.config-is (row .w0) j kind u) d))
 
   cd-passes : (k s : ℕ) → k ≤ 32 → rows.isEmpty row ≡ false → cdOf row (record { stream = s; span = k }) ≡ true → passes (ofBlock s k) row ≡ true
   unfolding cdOf
@@ -213,38 +208,38 @@ module _ (f : Features) (row : Row) where
   screened (CfgiCd substream stream leaf) s =
       cd-at-passes row stream substream (left (cdAt row stream substream) (not (spared row leaf)) (s .removed))
   screened (CfgiCdAll stream) s = cd-one-passes row stream (s .removed)
-  screened (TlbiNhAll vmid) s = marked-passes 0xffff1806 (4 + idAt16 vmid) (stage-marked row 2 vmid (s .removed))
+  screened (TlbiNhAll vmid) s = marked-passes stageMask (ofKind rows.stage1 + ofVmid vmid) (stage-marked row 2 vmid (s .removed))
   screened (TlbiNhAsid vmid asid) s =
       let both = left (stageOf row 2 vmid && hasAsid row asid) (not (rows.isGlobal row)) (s .removed) in
       let st = staged row 2 vmid (left (stageOf row 2 vmid) (hasAsid row asid) both) in
       let id = asid-is row asid (right (stageOf row 2 vmid) (hasAsid row asid) both) in
-      marked-passes 0xffffffff1816 (4 + idAt16 vmid + idAt16 asid * 2 ^ 16)
-      (word.stage-asid-is (row .w0) 2 (rows.vmid row) (rows.asid row) (4 + idAt16 vmid + idAt16 asid * 2 ^ 16) (st .unmarked .kind)
-      (not-global row (right (stageOf row 2 vmid && hasAsid row asid) (not (rows.isGlobal row)) (s .removed))) (st .unmarked .mark) refl refl
-      (omega (arith, st .id, id)))
+      marked-passes stageAsidMask (ofKind rows.stage1 + ofVmid vmid + ofAsid asid)
+      (word.stage-asid-is (row .w0) 2 vmid asid (ofKind rows.stage1 + ofVmid vmid + ofAsid asid) (st .unmarked .kind)
+      (not-global row (right (stageOf row 2 vmid && hasAsid row asid) (not (rows.isGlobal row)) (s .removed))) (st .unmarked .mark) (st .vmid) id
+      (omega (arith, vmid-placed row vmid (st .vmid), asid-placed row asid id)))
   screened (TlbiNhVa vmid asid t) s =
       let any = hasAsid row asid || rows.isGlobal row in
       stage-aimed row 2 vmid t (s .used) (left (stageAt row 2 vmid t) any (left (stageAt row 2 vmid t && any) (not (spared row (t .leaf))) (s .removed)))
   screened (TlbiNhVaa vmid t) s = stage-aimed row 2 vmid t (s .used) (left (stageAt row 2 vmid t) (not (spared row (t .leaf))) (s .removed))
-  screened TlbiEl2All s = marked-passes 6 4 (word.kind-is (row .w0) 2 (own-kind row (s .removed)))
+  screened TlbiEl2All s = marked-passes kindMask (ofKind rows.stage1) (word.kind-is (row .w0) 2 (own-kind row (s .removed)))
   screened (TlbiEl2Asid asid) s =
       let three = left (ownOf row && isE2h row && hasAsid row asid) (not (rows.isGlobal row)) (s .removed) in
       let two = left (ownOf row && isE2h row) (hasAsid row asid) three in
       let id = asid-is row asid (right (ownOf row && isE2h row) (hasAsid row asid) three) in
-      marked-passes 0xffff00001816 (0x1004 + idAt16 asid * 2 ^ 16)
-      (word.own-asid-is (row .w0) 2 2 (rows.asid row) (0x1004 + idAt16 asid * 2 ^ 16) (own-kind row (left (ownOf row) (isE2h row) two))
+      marked-passes ownAsidMask (ofKind rows.stage1 + ofMark rows.el2E2h + ofAsid asid)
+      (word.own-asid-is (row .w0) 2 2 asid (ofKind rows.stage1 + ofMark rows.el2E2h + ofAsid asid) (own-kind row (left (ownOf row) (isE2h row) two))
       (not-global row (right (ownOf row && isE2h row && hasAsid row asid) (not (rows.isGlobal row)) (s .removed)))
-      (eqb-true (rows.mark row) 2 (right (ownOf row) (isE2h row) two)) refl (omega (arith, id)))
+      (eqb-true (rows.mark row) 2 (right (ownOf row) (isE2h row) two)) id (omega (arith, asid-placed row asid id)))
   screened (TlbiEl2Va asid t) s =
       let any = not (isE2h row) || hasAsid row asid || rows.isGlobal row in
       own-aimed row f t (s .used) (left (ownAt row t) any (left (ownAt row t && any) (not (spared row (t .leaf))) (s .removed))) (s .ruled)
   screened (TlbiEl2Vaa t) s = own-aimed row f t (s .used) (left (ownAt row t) (not (spared row (t .leaf))) (s .removed)) (s .ruled)
   screened (TlbiS12Vmall vmid) s =
-      marked-passes 0xffff1804 (4 + idAt16 vmid)
+      marked-passes eitherMask (ofKind rows.stage1 + ofVmid vmid)
       (⊎-elim (λ p. either-marked row 2 vmid refl p) (λ q. either-marked row 3 vmid refl q) (either (stageOf row 2 vmid) (stageOf row 3 vmid) (s .removed)))
   screened (TlbiS2Ipa vmid t) s = stage-aimed row 3 vmid t (s .used) (left (stageAt row 3 vmid t) (not (spared row (t .leaf))) (s .removed))
   screened TlbiNsnhAll s =
-      marked-passes 0x1804 4
+      marked-passes anyMask (ofKind rows.stage1)
       (⊎-elim (λ p. any-marked row 2 refl p) (λ q. any-marked row 3 refl q) (either (ofStage row 2) (ofStage row 3) (s .removed)))
   screened (Sync cs) s = clash (s .removed) refl
   screened DptiAll s = clash (s .removed) refl

@@ -4,55 +4,27 @@ use commands::Command;
 use commands::Features;
 use commands::Target;
 use screens::Screen;
+use screens::places;
+use screens::places::EL2_E2H;
+use screens::places::STAGE1;
+use screens::places::STAGE2;
 ghost use mathlib.Core.Path.{_≡_};
 ghost use Prim.Native.Nat.{_*_, _^_, _≤_};
-ghost use Rattle.scope_screens.specs.ScopeScreens.{idAt16, regimeAt, aimed, ofBlock, ofContext, screenOf};
+ghost use Rattle.scope_screens.specs.ScopeScreens.{regimeAt, aimed, ofBlock, ofContext, screenOf};
 
-// Kind, mark and VMID in word 0.
-const STAGE: u64 = 0xffff_1806;
+// Word 0 by its parts.
+const OWN: u64 = places::KIND + places::MARK;
 
-// The same, and global and ASID.
-const STAGE_ASID: u64 = 0xffff_ffff_1816;
+const OWN_ASID: u64 = OWN + places::GLOBAL + places::ASID;
 
-// Kind's upper bit, which both stages have and no other, mark and VMID.
-const EITHER_STAGE: u64 = 0xffff_1804;
+const STAGE: u64 = OWN + places::VMID;
 
-// The same without the VMID.
-const ANY_STAGE: u64 = 0x1804;
+const STAGE_ASID: u64 = STAGE + places::GLOBAL + places::ASID;
 
-const KIND: u64 = 0x6;
+// Of both stages.
+const ANY_STAGE: u64 = places::STAGES + places::MARK;
 
-// Kind and mark.
-const OWN: u64 = 0x1806;
-
-// Kind, global, mark and ASID.
-const OWN_ASID: u64 = 0xffff_0000_1816;
-
-// Kinds in their place.
-const CD: u64 = 2;
-
-const STAGE1: u64 = 4;
-
-const STAGE2: u64 = 6;
-
-// The marks of the hypervisor's own rows in their place.
-const EL2: u64 = 0x800;
-
-const E2H: u64 = 0x1000;
-
-// An identifier in the place of a VMID.
-fn id_at_16(id: u64) -> u64
-    ensures { λ r. ⌜ (r ≡ idAt16 id) × (r ≤ 2 ^ 32) ⌝ }
-{
-    words::part(id, 15, 0) * 0x1_0000
-}
-
-// In the place of an ASID.
-fn id_at_32(id: u64) -> u64
-    ensures { λ r. ⌜ (r ≡ idAt16 id * 2 ^ 16) × (r ≤ 2 ^ 48) ⌝ }
-{
-    id_at_16(id) * 0x1_0000
-}
+const EITHER_STAGE: u64 = ANY_STAGE + places::VMID;
 
 // A single address has the quicker test.
 fn aimed(mask: u64, value: u64, target: Target) -> Screen
@@ -79,7 +51,7 @@ fn of_block(stream: u64, span: u64) -> Screen
 fn of_context(stream: u64) -> Screen
     ensures { λ r. ⌜ r ≡ ofContext stream ⌝ }
 {
-    Screen::Named(KIND, CD, 0xffff_ffff, stream)
+    Screen::Named(places::KIND, places::CD, places::STREAM, stream)
 }
 
 // The mark that 22 and 23 are about, in its place.
@@ -87,9 +59,9 @@ fn regime_at(f: Features) -> u64
     ensures { λ r. ⌜ (r ≡ regimeAt f) × (r ≤ 2 ^ 12) ⌝ }
 {
     if f.e2h {
-        return E2H;
+        return EL2_E2H;
     }
-    EL2
+    places::EL2
 }
 
 // Every command has a case here, and none stands for others: a new one is not forgotten.
@@ -103,19 +75,22 @@ pub fn screen_of(f: Features, c: Command) -> Screen
         Command::CfgiSteRange(stream, range) => of_block(stream, scopes::open_bits(range)),
         Command::CfgiCd(_, stream, _) => of_context(stream),
         Command::CfgiCdAll(stream) => of_context(stream),
-        Command::TlbiNhAll(vmid) => Screen::Marked(STAGE, STAGE1 + id_at_16(vmid)),
+        Command::TlbiNhAll(vmid) => Screen::Marked(STAGE, STAGE1 + places::of_vmid(vmid)),
         Command::TlbiNhAsid(vmid, asid) => Screen::Marked(
             STAGE_ASID,
-            STAGE1 + id_at_16(vmid) + id_at_32(asid),
+            STAGE1 + places::of_vmid(vmid) + places::of_asid(asid),
         ),
-        Command::TlbiNhVa(vmid, _, target) => aimed(STAGE, STAGE1 + id_at_16(vmid), target),
-        Command::TlbiNhVaa(vmid, target) => aimed(STAGE, STAGE1 + id_at_16(vmid), target),
-        Command::TlbiEl2All => Screen::Marked(KIND, STAGE1),
-        Command::TlbiEl2Asid(asid) => Screen::Marked(OWN_ASID, STAGE1 + E2H + id_at_32(asid)),
+        Command::TlbiNhVa(vmid, _, target) => aimed(STAGE, STAGE1 + places::of_vmid(vmid), target),
+        Command::TlbiNhVaa(vmid, target) => aimed(STAGE, STAGE1 + places::of_vmid(vmid), target),
+        Command::TlbiEl2All => Screen::Marked(places::KIND, STAGE1),
+        Command::TlbiEl2Asid(asid) => Screen::Marked(
+            OWN_ASID,
+            STAGE1 + EL2_E2H + places::of_asid(asid),
+        ),
         Command::TlbiEl2Va(_, target) => aimed(OWN, STAGE1 + regime_at(f), target),
         Command::TlbiEl2Vaa(target) => aimed(OWN, STAGE1 + regime_at(f), target),
-        Command::TlbiS12Vmall(vmid) => Screen::Marked(EITHER_STAGE, STAGE1 + id_at_16(vmid)),
-        Command::TlbiS2Ipa(vmid, target) => aimed(STAGE, STAGE2 + id_at_16(vmid), target),
+        Command::TlbiS12Vmall(vmid) => Screen::Marked(EITHER_STAGE, STAGE1 + places::of_vmid(vmid)),
+        Command::TlbiS2Ipa(vmid, target) => aimed(STAGE, STAGE2 + places::of_vmid(vmid), target),
         Command::TlbiNsnhAll => Screen::Marked(ANY_STAGE, STAGE1),
         Command::Sync(_) => Screen::Nobody,
         Command::DptiAll => Screen::Nobody,

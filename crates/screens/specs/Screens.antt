@@ -4,7 +4,7 @@
 use Prim.Native.Nat.{ℕ, _+_, _-_, _*_, _/_, _%_, _^_, _≤_, _<_}
 use mathlib.Core.Path.{_≡_}
 use mathlib.Core.Bool.{Bool, false, not, _&&_, _||_}
-use mathlib.Core.List.{List}
+use mathlib.Core.List.{List, [], _∷_}
 use lib.Bits.{bitAnd, bitOr, bitXor}
 use lib.Dec.{eqb, ltb}
 use lib.ListN.{length}
@@ -13,6 +13,7 @@ use Rattle.words.specs.declared.Found.{Found}
 use Rattle.rows.specs.declared.Row.{Row}
 use Rattle.rows.specs.Rows as rows
 use Rattle.image.specs.Image.{rowAt}
+use Rattle.screens.specs.Places.{maskOf, stagesBits}
 use Rattle.screens.specs.declared.Screen.{Screen}
 use Rattle.screens.specs.declared.Screen.the-variants.{Nobody, Marked, Named, Streaming, Covering, Reaching}
 
@@ -26,10 +27,10 @@ marked mask value row = eqb (bitAnd (row .w0) mask) value
 unfoldable pub named : ℕ → ℕ → ℕ → ℕ → Row → Bool
 named mask value other rest row = eqb (bitAnd (row .w0) mask) value && eqb (bitAnd (row .w1) other) rest
 
--- bit 2 of word 0 is set in rows of the stages alone
+-- no row of a stage
 unfoldable pub streaming : ℕ → ℕ → Row → Bool
 streaming mask value row =
-    not (eqb (row .w0) 0) && eqb (bitOr (bitAnd (row .w0) 4) (bitXor (bitAnd (row .w1) mask) value / 2 ^ rows.span row)) 0
+    not (eqb (row .w0) 0) && eqb (bitOr (bitAnd (row .w0) (maskOf (stagesBits ∷ []))) (bitXor (bitAnd (row .w1) mask) value / 2 ^ rows.span row)) 0
 
 unfoldable pub near : ℕ → Row → Bool
 near address row = eqb (ahead address (row .w2) / 2 ^ rows.span row) 0

@@ -1,19 +1,15 @@
-// What words 0 and 1 of a row that may answer, a last-level and unmarked one, have under their masks.
+// What word 0 of a row that may answer, a last-level and unmarked one, has under its masks.
+use crate::places;
 
-// Word 0: kind, last-level and mark.
-pub const KIND: u64 = 0x180e;
+pub const KIND: u64 = places::KIND + places::LAST + places::MARK;
 
-// The same, and the VMID.
-pub const KIND_VMID: u64 = 0xffff_180e;
+pub const KIND_VMID: u64 = KIND + places::VMID;
 
 // By the kind, with the VMID 0.
-pub const STE: u64 = 0x8;
+pub const STE: u64 = places::LAST;
 
-pub const CD: u64 = 0xa;
+pub const CD: u64 = places::LAST + places::CD;
 
-pub const STAGE1: u64 = 0xc;
+pub const STAGE1: u64 = places::LAST + places::STAGE1;
 
-pub const STAGE2: u64 = 0xe;
-
-// Word 1: the stream.
-pub const STREAM: u64 = 0xffff_ffff;
+pub const STAGE2: u64 = places::LAST + places::STAGE2;

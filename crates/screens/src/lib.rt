@@ -4,6 +4,7 @@ pub mod answering;
 mod covering;
 mod marked;
 mod named;
+pub mod places;
 mod reaching;
 mod streaming;
 mod used;

@@ -1,4 +1,5 @@
 // Rows of STEs and CDs by their stream.
+use crate::places;
 use rows::Row;
 use words::Found;
 ghost use mathlib.Core.Path.{_≡_};
@@ -11,7 +12,8 @@ ghost use Rattle.screens.specs.Screens.{streaming, anyFour, lowestFrom, 
 fn test(row: Row, mask: u64, value: u64) -> bool
     ensures { λ r. ⌜ r ≡ streaming mask value row ⌝ }
 {
-    !(row.w0 == 0) & ((row.w0 & 4) | (((row.w1 & mask) ^ value) >> rows::span_of(row)) == 0)
+    !(row.w0 == 0)
+        & ((row.w0 & places::STAGES) | (((row.w1 & mask) ^ value) >> rows::span_of(row)) == 0)
 }
 
 // Whether one of the four rows from row i on is.
