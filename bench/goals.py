@@ -23,6 +23,11 @@ def reached(figure, goal):
     return "yes" if figure.middle <= goal else "no"
 
 
+def beside(figure, goal):
+    """With a digit more where two would not tell it from the goal."""
+    return ranged(figure, 3 if f"{figure.middle:.2f}" == f"{goal:.2f}" else 2)
+
+
 def print_asked(results):
     worst = max(FULL, key=lambda letter: results.times[letter].ratio.middle)
     ratio = results.times[worst].ratio
@@ -39,7 +44,7 @@ def print_goals(results):
         for letter in letters:
             ratio = results.times[letter].ratio
             rows = number(results.cases[letter]["rows"])
-            row([what, letter, rows, f"{goal:.2f}", ranged(ratio), reached(ratio, goal), f"{results.counted(letter):.2f}"])
+            row([what, letter, rows, f"{goal:.2f}", beside(ratio, goal), reached(ratio, goal), f"{results.counted(letter):.2f}"])
     print()
 
 

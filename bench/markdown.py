@@ -15,5 +15,5 @@ def number(value):
     return f"{value:,.0f}" if value >= 100 else f"{value:.1f}"
 
 
-def ranged(figure):
-    return f"{figure.middle:.2f} ({figure.low:.2f} to {figure.high:.2f})"
+def ranged(figure, digits=2):
+    return f"{figure.middle:.{digits}f} ({figure.low:.{digits}f} to {figure.high:.{digits}f})"
