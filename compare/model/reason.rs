@@ -21,7 +21,7 @@ impl Reason {
     }
 }
 
-/// What a run that ends Raised carries: the reason, and the slot of the command.
+/// What comes with Raised: why, and which slot.
 #[derive(Clone, Copy, Debug, PartialEq, Eq)]
 pub struct Raised {
     pub reason: Reason,

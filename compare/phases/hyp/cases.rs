@@ -269,7 +269,7 @@ fn by_address(checker: &mut Checker) {
     }
 }
 
-/// 10 to 13, 28 and 30 spare marked rows, with Hyp or without; 2A is about stage 2.
+/// Marked rows stay under 10 to 13, 28 and 30, with Hyp or without; 2A is about stage 2.
 fn spared(checker: &mut Checker) {
     for features in [FOUR, 0x8F, HYP, SET] {
         for (command, gone) in [

@@ -264,7 +264,7 @@ fn rounded(checker: &mut Checker) {
     takes(checker, &rows, (0x13, 0x4_1000), ALL, &[3]);
 }
 
-/// A row is in scope if its span meets the range: it may be larger, smaller, or
+/// Rows that meet the range, by whatever part of theirs: they may be larger, smaller, or
 /// reach in from either side.
 fn met(checker: &mut Checker) {
     let rows = [
