@@ -171,6 +171,7 @@ void glue_consume(SMMUv3State *s) {
     }
     queue_tell(s);
     queue_mirror(s);
+    recorder_read_out(s); /* CR0 may have enabled the guest's event queue again */
 }
 
 void glue_reset(SMMUv3State *s) {
