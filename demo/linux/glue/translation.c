@@ -87,7 +87,7 @@ static bool empty_row(uint64_t *row) {
 }
 
 /* Whether to ask again: the row was filled, or power went and everything is to be done anew. If there is no room, or the unit
- * refuses the row (a double, or an address that no row can have), the access is answered by the walk and nothing is filled. */
+ * refuses the row (as a double, say), the access is answered by the walk and nothing is filled. */
 static bool fill(SMMUv3State *s, uint64_t miss, uint32_t sid) {
     uint64_t w[TAHVENNO_ROW_WORDS] = {0}, answer[TAHVENNO_ANSWER_WORDS], row, refused;
     if (!build_missed(miss, sid, w)) return false;
