@@ -60,7 +60,9 @@ fire_night() { # seed
         "the command; the soonest of all $(counted "$name" soonest_stale_use_us) us"
     echo "  the guest: $(said "$name" 'sum .* good' | wc -l) of $sums sums good, $(said "$name" 'sum .* BAD' | wc -l) bad," \
         "$([ -n "$(said "$name" done)" ] && echo 'came to its end' || echo 'did not come to its end')"
+    happened "$name" cuts_run stale_rows stale_uses
     on_unit "$name-none" "" "${night[@]}" && check "$name-none"
+    happened "$name-none" cuts_run cuts_fill cuts_answer_lost
     echo "the unit: $(cuts_of "$name-none"); all sums good"
     watched "$name-none"
     none_stale "$name-none"

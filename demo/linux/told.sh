@@ -11,26 +11,47 @@ counted() { # name, what
     sed -n "s/^$2=//p" "$runs/$1/report"
 }
 
-# A boot in which everything came back as it went, and the guest saw no fault.
-check() { # name
-    if [ "$(said "$1" 'sum .* good' | wc -l)" -ne "$sums" ] || [ -z "$(said "$1" done)" ] || [ -z "$(said "$1" 'faults 0$')" ]; then
+# A boot in which everything came back as it went, and the guest saw no fault, and no command error but those that were provoked.
+check() { # name, command errors that were provoked, none unless said
+    if [ "$(said "$1" 'sum .* good' | wc -l)" -ne "$sums" ] || [ -z "$(said "$1" done)" ] || [ -z "$(said "$1" 'faults 0$')" ] ||
+        [ -z "$(said "$1" "command errors ${2:-0}\$")" ]; then
         tail -n 20 "$runs/$1/log"
         stop "$1 did not end well; see $runs/$1/log"
     fi
 }
 
-none_stale() { # name
-    local what
-    for what in stale_uses final_rows_otherwise rows_missing_beside_twin; do
-        [ "$(counted "$1" $what)" = 0 ] || stop "$1: $what is $(counted "$1" $what)"
+exactly() { # name, what, number
+    [ "$(counted "$1" "$2")" = "$3" ] || stop "$1: $2 is '$(counted "$1" "$2")' and not '$3'"
+}
+
+# A count of nothing would let any check pass.
+happened() { # name, what..
+    local name=$1 what
+    shift
+    for what in "$@"; do
+        [ "$(counted "$name" "$what")" -gt 0 ] 2>/dev/null || stop "$name: nothing was counted of $what"
     done
 }
 
-# Every record that was written came to the guest, and there is one for each fault at least.
+none_stale() { # name
+    local what
+    happened "$1" hits_checked_by_walk final_rows_as_twin
+    for what in stale_rows stale_uses final_rows_otherwise rows_missing_beside_twin; do exactly "$1" $what 0; done
+}
+
+# There were faults, one for each access that was denied; every record that was written came to the guest, and there is one for each
+# fault at least.
 none_lost() { # name
-    local written
-    written=$(counted "$1" events)
-    [ "$written" = "$(counted "$1" events_taken_by_guest)" ] && [ "$written" -ge "$(counted "$1" faults)" ] || stop "$1: a record is lost"
+    happened "$1" faults
+    exactly "$1" faults "$(counted "$1" accesses_denied)"
+    exactly "$1" events_taken_by_guest "$(counted "$1" events)"
+    [ "$(counted "$1" events)" -ge "$(counted "$1" faults)" ] || stop "$1: a record is lost"
+}
+
+# Of a guest that was offered messages: each of its CMD_SYNCs got one, and pulsed the wire as well.
+both_ways() { # name
+    happened "$1" sync_messages
+    exactly "$1" sync_wired "$(counted "$1" sync_messages)"
 }
 
 # The seconds that the workload took by the guest's clock, and the processor's seconds of the whole boot.

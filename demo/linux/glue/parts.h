@@ -25,7 +25,7 @@ struct known {
 };
 extern struct known known;
 
-/* Faults are not recorded: a walk is made to compare, and not for a device. */
+/* Faults are not recorded: a walk is made to compare, or to fill a row, and does not answer a device yet. */
 extern bool quiet;
 
 /* state.c: the file, and what a cut does to the glue */
@@ -64,7 +64,8 @@ uint64_t ask(const uint64_t *kept, uint32_t sid, hwaddr addr, uint64_t answer[8]
     w(RUNS, "runs") w(REMOVED, "rows_removed") \
     w(FILLED_STE, "filled_ste") w(FILLED_CD, "filled_cd") w(FILLED_STAGE1, "filled_stage1") w(FILLED_READ_ONLY, "filled_read_only") \
     w(HITS, "hits") w(MISSES_STE, "misses_ste") w(MISSES_CD, "misses_cd") w(MISSES_STAGE1, "misses_stage1") \
-    w(NO_ROOM, "answered_by_walk_no_room") w(DOUBLED, "answered_by_walk_doubled") w(ABORTS, "aborts") \
+    w(NO_ROOM, "answered_by_walk_no_room") w(DOUBLED, "answered_by_walk_doubled") w(UNFIT, "answered_by_walk_unfit") \
+    w(ABORTS, "aborts") w(DENIED, "accesses_denied") \
     w(CUTS_OF_RUNS, "cuts_run") w(CUTS_OF_FILLS, "cuts_fill") w(CUTS_OF_EVENTS, "cuts_event") w(LOST_ANSWERS, "cuts_answer_lost") \
     w(REFUSED_BELLS, "doorbells_refused") w(RAISED, "errors_raised") w(ACKNOWLEDGED, "errors_acknowledged") \
     w(MSIS, "sync_messages") w(MSIS_TO_SLOT, "sync_messages_to_own_slot") w(WIRED, "sync_wired") \

@@ -7,8 +7,13 @@
 #include "sysemu/dma.h"
 
 #define INDEX(s) TAHVENNO_BITS((s)->cmdq.log2size, 0) /* slot and wrap bit */
+#define MSI_ADDRESS TAHVENNO_BITS(55, 2)              /* where a CMD_SYNC has it, in its upper half */
+#define IDR0_MSI 13                                   /* for which QEMU has no name */
 #define QUEUE_BYTES TAHVENNO_QUEUE_BYTES(control(TAHVENNO_LOG2SIZE))
 #define TABLE_WORDS TAHVENNO_TABLE_WORDS(REGIONS)
+
+/* A message may land in the SMMU's own registers. No run may come before what is owed is told, so these writes start none. */
+static bool telling;
 
 static bool error_active(void) {
     return control(TAHVENNO_GERROR) != control(TAHVENNO_GERRORN);
@@ -70,29 +75,38 @@ void queue_show_error(SMMUv3State *s) {
     if (smmuv3_gerror_irq_enabled(s)) qemu_irq_pulse(s->irq[SMMU_IRQ_GERROR]);
 }
 
-/* What a consumed CMD_SYNC with CS 1 asks for: its own message, or the interrupt by wire if it names no address. */
+/* The message of a CMD_SYNC, if messages are offered and it names an address. Zero in the whole of the field is none; the message
+ * goes to what the offered size of addresses leaves of it. */
+static void send_message(SMMUv3State *s, const Cmd *cmd, const uint8_t *slot) {
+    uint64_t field = ((uint64_t)cmd->word[3] << 32 | cmd->word[2]) & MSI_ADDRESS;
+    hwaddr address = field & MAKE_64BIT_MASK(0, oas2bits(FIELD_EX32(s->idr[5], IDR5, OAS)));
+    if (!extract32(s->idr[0], IDR0_MSI, 1) || !field) return;
+    watch_count(MSIS, 1);
+    watch_count(MSIS_TO_SLOT, address == Q_BASE(&s->cmdq) + (slot - known.queue));
+    address_space_stl_le(&address_space_memory, address, cmd->word[1], MEMTXATTRS_UNSPECIFIED, NULL);
+}
+
+/* What a consumed CMD_SYNC with CS 1 asks for: its message, and the interrupt by wire whether there is one or not. */
 static void answer_sync(SMMUv3State *s, const uint8_t *slot) {
     Cmd cmd;
-    hwaddr address;
     for (int i = 0; i < ARRAY_SIZE(cmd.word); i++) cmd.word[i] = ldl_le_p(slot + 4 * i);
     if (CMD_TYPE(&cmd) != SMMU_CMD_SYNC || CMD_SYNC_CS(&cmd) != CMD_SYNC_SIG_IRQ) return;
-    address = ((uint64_t)cmd.word[3] << 32 | cmd.word[2]) & TAHVENNO_BITS(51, 2);
-    watch_count(address ? MSIS : WIRED, 1);
-    watch_count(MSIS_TO_SLOT, address == Q_BASE(&s->cmdq) + (slot - known.queue));
-    if (address)
-        address_space_stl_le(&address_space_memory, address, cmd.word[1], MEMTXATTRS_UNSPECIFIED, NULL);
-    else
-        qemu_irq_pulse(s->irq[SMMU_IRQ_CMD_SYNC]);
+    send_message(s, &cmd, slot);
+    watch_count(WIRED, 1);
+    qemu_irq_pulse(s->irq[SMMU_IRQ_CMD_SYNC]);
 }
 
 /* PENDING says that something is owed, `told` from which command on. Answered first, then noted, then cleared, no run between. */
 void queue_tell(SMMUv3State *s) {
     uint64_t answer[TAHVENNO_ANSWER_WORDS];
+    if (telling) return;
+    telling = true;
     if (control(TAHVENNO_PENDING)) {
         for (uint64_t i = *known.told; i != control(TAHVENNO_RD); i = next_index(i)) answer_sync(s, slot_of(i));
     }
     *known.told = control(TAHVENNO_RD);
     if (control(TAHVENNO_PENDING)) state_must(tahvenno_clear_pending(known.kept, known.words, answer), "clear pending");
+    telling = false;
 }
 
 /* The registers say what the control word says. While the queue is off its indexes are the guest's to write. */
@@ -144,7 +158,10 @@ static void ring(SMMUv3State *s) {
     watch_count(REFUSED_BELLS, 1);
 }
 
+/* A write that a message makes is not carried out here: PROD and GERRORN are then as the control word has them, and CR0 counts from
+ * the guest's next write on. */
 void glue_consume(SMMUv3State *s) {
+    if (telling) return;
     enable(s);
     acknowledge(s);
     ring(s);
@@ -154,11 +171,12 @@ void glue_consume(SMMUv3State *s) {
     }
     queue_tell(s);
     queue_mirror(s);
+    recorder_read_out(s); /* CR0 may have enabled the guest's event queue again */
 }
 
 void glue_reset(SMMUv3State *s) {
     if (!glue_on()) return;
-    s->idr[0] = deposit32(s->idr[0], 13, 1, getenv("TAHVENNO_MSI") != NULL); /* SMMU_IDR0.MSI, which QEMU has no name for */
+    s->idr[0] = deposit32(s->idr[0], IDR0_MSI, 1, getenv("TAHVENNO_MSI") != NULL);
     s->idr[1] = FIELD_DP32(s->idr[1], IDR1, CMDQS, TAHVENNO_MAX_LOG2SIZE);
     s->idr[1] = FIELD_DP32(s->idr[1], IDR1, EVENTQS, EVENTS_N);
     s->cmdq.base = deposit64(s->cmdq.base, 0, 5, TAHVENNO_MAX_LOG2SIZE);

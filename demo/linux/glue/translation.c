@@ -11,6 +11,7 @@
 #define MAY_WRITE TAHVENNO_INNER_WA
 
 enum { ANSWER_HINTS = 4, SMALLEST_PAGE = 0xfff, SHCFG_AS_IT_COMES = 1 };
+enum { REFUSED_MEMORY = 3, REFUSED_DOUBLE = 11 }; /* up to 3 a refusal is about the memory, above it about the row */
 
 static glue_walk *walk;
 
@@ -59,11 +60,16 @@ static void build_page(uint64_t row[]) {
     row[3] = page->translated_addr;
 }
 
+/* Of a stream that the guest's table now aborts or lets pass QEMU reads no CD, though a row may still say stage 1. */
+static bool has_cd(void) {
+    return known.has_config && !known.config.aborted && !known.config.bypassed;
+}
+
 /* The row that was missed, if the walk found it. */
 static bool build_missed(uint64_t miss, uint32_t sid, uint64_t row[]) {
     if (miss == TAHVENNO_MISS_STE && known.has_config)
         build_ste(sid, row);
-    else if (miss == TAHVENNO_MISS_CD && known.has_config)
+    else if (miss == TAHVENNO_MISS_CD && has_cd())
         build_cd(sid, row);
     else if (miss == TAHVENNO_MISS_STAGE1 && known.has_page)
         build_page(row);
@@ -80,8 +86,8 @@ static bool empty_row(uint64_t *row) {
     return false;
 }
 
-/* Whether to ask again: the row was filled, or power went and everything is to be done anew. If there is no room, or a row doubles
- * this one, the access is answered by the walk and nothing is filled. */
+/* Whether to ask again: the row was filled, or power went and everything is to be done anew. If there is no room, or the unit
+ * refuses the row (as a double, say), the access is answered by the walk and nothing is filled. */
 static bool fill(SMMUv3State *s, uint64_t miss, uint32_t sid) {
     uint64_t w[TAHVENNO_ROW_WORDS] = {0}, answer[TAHVENNO_ANSWER_WORDS], row, refused;
     if (!build_missed(miss, sid, w)) return false;
@@ -90,8 +96,8 @@ static bool fill(SMMUv3State *s, uint64_t miss, uint32_t sid) {
         return false;
     }
     refused = tahvenno_fill(known.kept, known.words, row, w[0], w[1], w[2], w[3], cuts_allowance(TAHVENNO_ROW_WORDS), answer);
-    if (refused == 11) {
-        watch_count(DOUBLED, 1);
+    if (refused > REFUSED_MEMORY) {
+        watch_count(refused == REFUSED_DOUBLE ? DOUBLED : UNFIT, 1);
         return false;
     }
     state_must(refused, "a fill");
@@ -117,13 +123,26 @@ static IOMMUTLBEntry entry_of(hwaddr addr, const uint64_t answer[8]) {
     };
 }
 
-/* What the guest's tables say now; all ones if they map nothing there. */
-static hwaddr by_tables(IOMMUMemoryRegion *mr, hwaddr addr, IOMMUAccessFlags flag, int idx) {
+static IOMMUTLBEntry walk_quietly(IOMMUMemoryRegion *mr, hwaddr addr, IOMMUAccessFlags flag, int idx) {
     IOMMUTLBEntry entry;
     quiet = true;
     entry = walk(mr, addr, flag, idx);
     quiet = false;
+    return entry;
+}
+
+/* What the guest's tables say now; all ones if they map nothing there. */
+static hwaddr by_tables(IOMMUMemoryRegion *mr, hwaddr addr, IOMMUAccessFlags flag, int idx) {
+    IOMMUTLBEntry entry = walk_quietly(mr, addr, flag, idx);
     return entry.perm == IOMMU_NONE ? ~(hwaddr)0 : entry.translated_addr;
+}
+
+/* An access may be walked for each of the rows that it misses, and is owed one record of its fault: a last walk makes it, when there
+ * is nothing to fill any more. */
+static IOMMUTLBEntry deny(IOMMUMemoryRegion *mr, hwaddr addr, IOMMUAccessFlags flag, int idx) {
+    IOMMUTLBEntry entry = walk(mr, addr, flag, idx);
+    watch_count(DENIED, entry.perm == IOMMU_NONE);
+    return entry;
 }
 
 static IOMMUTLBEntry translate(IOMMUMemoryRegion *mr, hwaddr addr, IOMMUAccessFlags flag, int idx) {
@@ -147,9 +166,9 @@ static IOMMUTLBEntry translate(IOMMUMemoryRegion *mr, hwaddr addr, IOMMUAccessFl
         }
         if (outcome >= TAHVENNO_MISS_STE) watch_count(MISSES_STE + (outcome - TAHVENNO_MISS_STE), 1);
         known.has_config = known.has_page = false;
-        entry = walk(mr, addr, flag, idx);
+        entry = walk_quietly(mr, addr, flag, idx);
     } while (fill(s, outcome, smmu_get_sid(device)));
-    return entry;
+    return entry.perm == IOMMU_NONE ? deny(mr, addr, flag, idx) : entry;
 }
 
 glue_walk *glue_translate(glue_walk *own) {
