@@ -1,4 +1,6 @@
 // Memory attributes: what is well formed, the fields that override them, and the final rule.
+#![tactic(auto)]
+
 mod formats;
 mod settling;
 
@@ -9,7 +11,7 @@ pub use formats::{
 pub use settling::settled;
 
 // The attributes of an access: MemAttr, SH and hints.
-#[derive(Drop)]
+#[derive(Clone, Copy)]
 pub struct Attributes {
     pub memattr: u64,
     pub sh: u64,
@@ -17,7 +19,7 @@ pub struct Attributes {
 }
 
 // What an STE row overrides them by: MTCFG, MemAttr, SHCFG and ALLOCCFG.
-#[derive(Drop)]
+#[derive(Clone, Copy)]
 pub struct Overrides {
     pub mtcfg: u64,
     pub memattr: u64,

@@ -1,4 +1,6 @@
 // Document 02, T-10: several commands written into the free slots of the queue. The doorbell is rung after the last byte.
+#![tactic(auto)]
+
 mod placing;
 
 ghost use Rattle.std.specs.Prelude.{◌≡◌, ◌*◌, ◌^◌, ◌≤◌, ◌<◌, length, set};
@@ -11,14 +13,14 @@ use image::{Checked, Refusal};
 use writer::{Fault, Verdict};
 
 // The first bad command, or none.
-#[derive(Drop)]
+#[derive(Clone, Copy)]
 pub enum Judged {
     AllFit,
     Bad(usize, Fault),
 }
 
 // Why a batch is refused: the image, the queue's length, a command, or too few free slots.
-#[derive(Drop)]
+#[derive(Clone, Copy)]
 pub enum BatchRefusal {
     Image(Refusal),
     BadQueue,
@@ -26,7 +28,7 @@ pub enum BatchRefusal {
     NoRoom,
 }
 
-#[derive(Drop)]
+#[derive(Clone, Copy)]
 pub enum BatchAnswer {
     Refused(BatchRefusal),
     Rung,

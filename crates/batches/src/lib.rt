@@ -1,5 +1,7 @@
 // Document 02, T-12: whether a proposed batch of invalidations leaves the rows that the original does. Nothing is stored and nothing
 // is copied: marks say which rows of a block went.
+#![tactic(auto)]
+
 mod blocks;
 mod commands_of;
 
@@ -12,14 +14,14 @@ use image::Refusal;
 use words::Found;
 
 // The two batches that are compared.
-#[derive(Drop)]
+#[derive(Clone, Copy)]
 pub enum Batch {
     Original,
     Proposed,
 }
 
 // Why a check is refused: the image, the second table, or the length of a batch.
-#[derive(Drop)]
+#[derive(Clone, Copy)]
 pub enum CheckRefusal {
     Image(Refusal),
     Table(regions::Refusal),
@@ -27,7 +29,7 @@ pub enum CheckRefusal {
 }
 
 // Yes; or the first command that doesn't qualify, or the lowest row that differs.
-#[derive(Drop)]
+#[derive(Clone, Copy)]
 pub enum CheckAnswer {
     Refused(CheckRefusal),
     Same,

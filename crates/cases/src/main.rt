@@ -2,6 +2,8 @@
 // what the line is about, and behind it are words in hex. k starts a kept memory with these words, + adds a row to it, z makes
 // it of so many zero words; s lends a second table of these words, which until then is one empty row; q makes a queue of so many
 // bytes, zero but for the words from a place on. The other letters make a call, whose answer is a line of output.
+#![tactic(auto)]
+
 mod calls;
 mod show;
 

@@ -1,4 +1,6 @@
 // Document 01, A transaction: combining, by the numbers of the 29 consistent values.
+#![tactic(auto)]
+
 ghost use Rattle.std.specs.Prelude.{◌≡◌, true, ◌<◌};
 ghost use Rattle.attributes.specs.Formats.{mem_attr_formed};
 ghost use Rattle.combining.specs.Combining.{rank, sh_of_rank, number, mem_attr_of, sh_of, combine, combined};

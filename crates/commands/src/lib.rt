@@ -1,4 +1,6 @@
 // Commands: which are legal, and what they are.
+#![tactic(auto)]
+
 mod decoding;
 mod feature_bits;
 mod formats;
@@ -7,7 +9,7 @@ pub use decoding::{decode, decode_at, syncs_of};
 pub use feature_bits::features_of;
 
 // What the unit is told to have.
-#[derive(Drop)]
+#[derive(Clone, Copy)]
 pub struct Features {
     pub s1p: bool,
     pub s2p: bool,
@@ -23,7 +25,7 @@ pub struct Features {
 }
 
 // What a command by address aims at: Leaf, and the address without its low 12 bits.
-#[derive(Drop)]
+#[derive(Clone, Copy)]
 pub struct Target {
     pub leaf: bool,
     pub page: u64,
@@ -36,14 +38,14 @@ pub struct Target {
 }
 
 // Which of the range's fields a command uses, as far as its other bits depend on it: TG is not 0, TTL is not 0.
-#[derive(Drop)]
+#[derive(Clone, Copy)]
 pub struct Shape {
     pub ranged: bool,
     pub hinted: bool,
 }
 
 // A legal command, with its fields as they stand.
-#[derive(Drop)]
+#[derive(Clone, Copy)]
 pub enum Command {
     PrefetchConfig,
     PrefetchAddr,
@@ -84,7 +86,7 @@ pub enum Command {
 }
 
 // Document 02, T-09: why a command is illegal.
-#[derive(Drop)]
+#[derive(Clone, Copy)]
 pub enum Reason {
     UnknownCode,
     FeatureAbsent,
@@ -93,7 +95,7 @@ pub enum Reason {
 }
 
 // What sixteen bytes of the queue are.
-#[derive(Drop)]
+#[derive(Clone, Copy)]
 pub enum Decoded {
     Legal(Command),
     Illegal(Reason),

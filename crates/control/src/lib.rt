@@ -1,4 +1,6 @@
 // The control word: its parts, and what it lets a run do.
+#![tactic(auto)]
+
 pub mod places;
 mod word;
 
@@ -8,7 +10,7 @@ pub use word::{
 };
 
 // Why a run does nothing more.
-#[derive(Drop)]
+#[derive(Clone, Copy)]
 pub enum Rest {
     Off,
     Held,
@@ -16,14 +18,14 @@ pub enum Rest {
 }
 
 // What the control word says to a run: rest, or take the command at RD.
-#[derive(Drop)]
+#[derive(Clone, Copy)]
 pub enum Standing {
     Resting(Rest),
     Open,
 }
 
 // The parts of the control word.
-#[derive(Drop)]
+#[derive(Clone, Copy)]
 pub struct Fields {
     pub rd: u64,
     pub wr: u64,

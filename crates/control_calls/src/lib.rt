@@ -1,50 +1,52 @@
 // The calls that store only the control word: doorbell, acknowledge, clear pending, enable or disable. Each makes one store, or none.
+#![tactic(auto)]
+
 ghost use Rattle.words.specs.Outcomes.{Gives};
 ghost use Rattle.control_calls.specs.Calls.{doorbell, acknowledge, clear_pending, enable};
 
 use image::Checked;
 
 // Why a doorbell is refused: the image, or an index that WR may not become.
-#[derive(Drop)]
+#[derive(Clone, Copy)]
 pub enum DoorbellRefusal {
     Image(image::Refusal),
     BadIndex,
 }
 
-#[derive(Drop)]
+#[derive(Clone, Copy)]
 pub enum DoorbellAnswer {
     Refused(DoorbellRefusal),
     Rung,
 }
 
 // Why an acknowledge is refused: the image, or no error to acknowledge.
-#[derive(Drop)]
+#[derive(Clone, Copy)]
 pub enum AcknowledgeRefusal {
     Image(image::Refusal),
     NoError,
 }
 
-#[derive(Drop)]
+#[derive(Clone, Copy)]
 pub enum AcknowledgeAnswer {
     Refused(AcknowledgeRefusal),
     Acknowledged,
 }
 
 // Why clearing is refused: the image, or no interrupt that is pending.
-#[derive(Drop)]
+#[derive(Clone, Copy)]
 pub enum ClearRefusal {
     Image(image::Refusal),
     NotPending,
 }
 
-#[derive(Drop)]
+#[derive(Clone, Copy)]
 pub enum ClearAnswer {
     Refused(ClearRefusal),
     Cleared,
 }
 
 // Enabling and disabling are refused for the image only.
-#[derive(Drop)]
+#[derive(Clone, Copy)]
 pub enum EnableAnswer {
     Refused(image::Refusal),
     Switched,

@@ -1,4 +1,6 @@
 // Document 01, One run: the control word after each single store.
+#![tactic(auto)]
+
 ghost use Rattle.std.specs.Prelude.{◌≡◌};
 ghost use Rattle.control_stores.specs.Stores.{consumed, raised, may_ring, rung, acknowledged, pended, switched};
 

@@ -1,4 +1,6 @@
 // Whether two rows could answer the same lookup, so that a fill can refuse a second one.
+#![tactic(auto)]
+
 ghost use Rattle.std.specs.Prelude.{◌≡◌, ◌+◌, ◌*◌, ◌≤◌, length};
 ghost use Rattle.doubles.specs.Doubles.{same_context, shares_address, shares_stage, shares_asid, shares, collides, collides_at, screen_of, doubled};
 

@@ -1,5 +1,7 @@
 // Document 01, One run, with document 02, T-11: the step, which makes the one store that is due. Nothing else of a run writes to
 // lent memory.
+#![tactic(auto)]
+
 ghost use Rattle.std.specs.Prelude.{◌≡◌, true, false, ◌+◌, ◌-◌, ◌*◌, ◌^◌, ◌≤◌, ◌<◌, min, max, length};
 ghost use Rattle.words.specs.Choice.{pick};
 ghost use Rattle.words.specs.Search.{lowest};
@@ -14,14 +16,14 @@ use commands::{Command, Decoded, Features, Reason};
 use words::Found;
 
 // Document 02, T-09: what a raised error tells: why the command is illegal, and the slot that it is in.
-#[derive(Drop)]
+#[derive(Clone, Copy)]
 pub struct Raising {
     pub why: Reason,
     pub slot: u64,
 }
 
 // The one store that a step made.
-#[derive(Drop)]
+#[derive(Clone, Copy)]
 pub enum Stepped {
     Removed(usize),
     Consumed,

@@ -1,5 +1,7 @@
 // The recorder's calls: a record is written word by word and shown by the index word last, so that it is seen whole or not at all.
 // Reading the oldest and acknowledging an overflow make one store each, or none.
+#![tactic(auto)]
+
 ghost use Rattle.std.specs.Prelude.{◌≡◌, ◌+◌, ◌*◌, ◌≤◌, ◌<◌, length, set};
 ghost use Rattle.words.specs.Outcomes.{Gives};
 ghost use Rattle.events.specs.Events.{index_of};
@@ -8,7 +10,7 @@ ghost use Rattle.event_calls.specs.Calls.{write_stores, store_at, drop_stores, S
 use events::{Checked, Record};
 
 // How a write ends.
-#[derive(Drop)]
+#[derive(Clone, Copy)]
 pub enum WriteEnd {
     Stored,
     Dropped,
@@ -16,40 +18,40 @@ pub enum WriteEnd {
 }
 
 // What a write reports.
-#[derive(Drop)]
+#[derive(Clone, Copy)]
 pub struct Writing {
     pub end: WriteEnd,
     pub stores: u64,
 }
 
 // A write is refused for the recorder only.
-#[derive(Drop)]
+#[derive(Clone, Copy)]
 pub enum WriteAnswer {
     Refused(events::Refusal),
     Done(Writing),
 }
 
 // Why a read is refused: the recorder, or no record that waits.
-#[derive(Drop)]
+#[derive(Clone, Copy)]
 pub enum ReadRefusal {
     Recorder(events::Refusal),
     Empty,
 }
 
-#[derive(Drop)]
+#[derive(Clone, Copy)]
 pub enum ReadAnswer {
     Refused(ReadRefusal),
     Oldest(Record),
 }
 
 // Why an acknowledge is refused: the recorder, or no overflow that is outstanding.
-#[derive(Drop)]
+#[derive(Clone, Copy)]
 pub enum AcknowledgeRefusal {
     Recorder(events::Refusal),
     NoOverflow,
 }
 
-#[derive(Drop)]
+#[derive(Clone, Copy)]
 pub enum AcknowledgeAnswer {
     Refused(AcknowledgeRefusal),
     Acknowledged,

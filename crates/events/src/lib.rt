@@ -1,4 +1,6 @@
 // The recorder's kept memory: an index word, then 2^n slots of four words.
+#![tactic(auto)]
+
 use words::Found;
 
 mod places;
@@ -15,7 +17,7 @@ pub use word::{free, is_empty, is_full, log2size_of, oldest, outstanding, rd_of,
 pub const MAX_LOG2: usize = 7;
 
 // The four words of a record.
-#[derive(Drop)]
+#[derive(Clone, Copy)]
 pub struct Record {
     pub w0: u64,
     pub w1: u64,
@@ -24,14 +26,14 @@ pub struct Record {
 }
 
 // Why a recorder is refused: its length, or its index word.
-#[derive(Drop)]
+#[derive(Clone, Copy)]
 pub enum Refusal {
     BadLength,
     BadIndex,
 }
 
 // What a check answers: n, or a refusal.
-#[derive(Drop)]
+#[derive(Clone, Copy)]
 pub enum Checked {
     Accepted(usize),
     Refused(Refusal),

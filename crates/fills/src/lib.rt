@@ -1,4 +1,6 @@
 // Filling a row: its four words stored one at a time, word 0 last, so that a row is seen whole or not at all.
+#![tactic(auto)]
+
 ghost use Rattle.std.specs.Prelude.{◌≡◌, ◌+◌, ◌*◌, ◌≤◌, ◌<◌, length, set};
 ghost use Rattle.words.specs.Outcomes.{Gives};
 ghost use Rattle.fills.specs.Fills.{store_at, fit, fill, Stores};
@@ -7,21 +9,21 @@ use image::Checked;
 use rows::Row;
 
 // How a fill ends.
-#[derive(Drop)]
+#[derive(Clone, Copy)]
 pub enum FillEnd {
     Filled,
     Cut,
 }
 
 // What a fill reports.
-#[derive(Drop)]
+#[derive(Clone, Copy)]
 pub struct Filling {
     pub end: FillEnd,
     pub stores: u64,
 }
 
 // Why a fill is refused.
-#[derive(Drop)]
+#[derive(Clone, Copy)]
 pub enum FillRefusal {
     Image(image::Refusal),
     NoSuchRow,
@@ -30,7 +32,7 @@ pub enum FillRefusal {
     Doubled,
 }
 
-#[derive(Drop)]
+#[derive(Clone, Copy)]
 pub enum FillAnswer {
     Refused(FillRefusal),
     Done(Filling),

@@ -1,5 +1,7 @@
 // The C interface. Each call carries out one of the unit's, and tells its outcome by numbers: it returns 0 or the refusal's
 // number, and fills the eight words of the answer. include/tahvenno.h says what each word is.
+#![tactic(auto)]
+
 ghost use Rattle.interface.specs.Asked.{transaction_of};
 ghost use Rattle.memory.specs.Memory.{both};
 ghost use Rattle.batch_writes.specs.Batch.{lent};

@@ -1,5 +1,7 @@
 // Document 02, T-09: the illegal commands of a queue, for a technician: slot, code, why, and the Reserved bits that are set.
 // Standard input has the features as two hexadecimal digits and the line's end, then the bytes of the queue.
+#![tactic(auto)]
+
 ghost use Rattle.std.specs.Prelude.{◌+◌, ◌*◌, ◌≤◌, length};
 
 use commands::{Decoded, Features};

@@ -1,4 +1,6 @@
 // The kept memory: one control word, then rows of four words.
+#![tactic(auto)]
+
 ghost use Rattle.std.specs.Prelude.{◌≡◌, ◌+◌, ◌*◌, ◌≤◌, length};
 ghost use Rattle.words.specs.Search.{lowest};
 ghost use Rattle.image.specs.Image.{row_at, is_bad, is_used, check, used_rows};
@@ -10,7 +12,7 @@ use words::Found;
 pub const MAX_ROWS: usize = 1000;
 
 // Why an image is refused: its length, its control word, or its lowest ill-formed row.
-#[derive(Drop)]
+#[derive(Clone, Copy)]
 pub enum Refusal {
     BadLength,
     BadControl,
@@ -18,7 +20,7 @@ pub enum Refusal {
 }
 
 // What a check answers: the number of rows, or a refusal.
-#[derive(Drop)]
+#[derive(Clone, Copy)]
 pub enum Checked {
     Accepted(usize),
     Refused(Refusal),

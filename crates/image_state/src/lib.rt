@@ -1,10 +1,12 @@
 // The state of an image: its indexes, its error, whether it is enabled, its used rows. From words, and from their bytes.
+#![tactic(auto)]
+
 ghost use Rattle.std.specs.Prelude.{◌≡◌, ◌*◌, ◌≤◌, length, take};
 ghost use Rattle.image_state.specs.States.{state_of, words_in, state_in};
 
 use image::{Checked, Refusal};
 
-#[derive(Drop)]
+#[derive(Clone, Copy)]
 pub struct State {
     pub rd: u64,
     pub wr: u64,
@@ -14,7 +16,7 @@ pub struct State {
     pub used: u64,
 }
 
-#[derive(Drop)]
+#[derive(Clone, Copy)]
 pub enum StateAnswer {
     Refused(Refusal),
     Is(State),

@@ -1,4 +1,6 @@
 // The indexes of a queue of 2^n slots.
+#![tactic(auto)]
+
 ghost use Rattle.std.specs.Prelude.{◌≡◌, ◌<◌};
 ghost use Rattle.indexes.specs.Indexes.{in_range, distance, slot, next, well_formed};
 

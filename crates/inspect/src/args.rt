@@ -12,7 +12,7 @@ const OPTIONS: usize = 2;
 const STEP: usize = 2;
 
 // Where the files' names stand on the command line, 0 for one that is not given; and the features.
-#[derive(Drop)]
+#[derive(Clone, Copy)]
 pub struct Args {
     pub kept: usize,
     pub queue: usize,

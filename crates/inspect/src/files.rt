@@ -16,7 +16,7 @@ pub const QUEUE: usize = 1 + (16 << control::MAX_LOG2);
 pub const WORD: usize = 8;
 
 // What was read of a file: its bytes, and the whole words of them that have a place.
-#[derive(Drop)]
+#[derive(Clone, Copy)]
 pub struct Size {
     pub given: bool,
     pub failed: bool,
@@ -24,7 +24,7 @@ pub struct Size {
     pub words: usize,
 }
 
-#[derive(Drop)]
+#[derive(Clone, Copy)]
 pub struct Sizes {
     pub kept: Size,
     pub queue: Size,

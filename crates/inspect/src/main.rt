@@ -1,4 +1,6 @@
 // For service staff after an incident: a dump of the kept memory, and of what is lent beside it, in words.
+#![tactic(auto)]
+
 mod args;
 mod attribute_text;
 mod files;

@@ -1,4 +1,6 @@
 // Between the unit's types and C's words: what a C caller asks, and what it is told.
+#![tactic(auto)]
+
 mod answers;
 mod asked;
 mod checked;
@@ -17,7 +19,7 @@ pub use tables::table_fill_reply;
 pub use writers::{batch_reply, write_reply};
 
 // The number that a call returns, 0 or its refusal's, and the eight words of its answer.
-#[derive(Drop)]
+#[derive(Clone, Copy)]
 pub struct Reply {
     pub code: u64,
     pub words: [u64; 8],

@@ -1,4 +1,6 @@
 // Which row answers a step of a transaction: the lowest last-level, unmarked row that fits what the step wants.
+#![tactic(auto)]
+
 ghost use Rattle.std.specs.Prelude.{◌≡◌, ◌+◌, ◌*◌, ◌≤◌, length};
 ghost use Rattle.image.specs.Image.{rows_in};
 ghost use Rattle.lookups.specs.Lookups.{fits, answers, answers_at, screen_of, find, look};
@@ -9,7 +11,7 @@ use words::Found;
 
 // What a step looks for: the STE row of a stream, the CD row of a stream and a substream, the stage 1 row of a VMID,
 // an ASID and an address, the stage 2 row of a VMID and an address.
-#[derive(Drop)]
+#[derive(Clone, Copy)]
 pub enum Wanted {
     Ste(u64),
     Cd(u64, u64),
@@ -18,7 +20,7 @@ pub enum Wanted {
 }
 
 // What a step finds: the row that answers it, or none.
-#[derive(Drop)]
+#[derive(Clone, Copy)]
 pub enum Looked {
     Hit(Row),
     NoRow,

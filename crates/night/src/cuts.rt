@@ -17,7 +17,7 @@ const MOST: u64 = 14 * 24;
 
 // A night so far: its memory, the stores until power goes, whether it has gone, how many calls were made again, and whether each
 // answer was that of the night without a cut.
-#[derive(Drop)]
+#[derive(Clone, Copy)]
 struct Night {
     memory: Memory,
     left: u64,
@@ -27,7 +27,7 @@ struct Night {
 }
 
 // How many calls were made again in all nights, and how many nights ended as the one without a cut.
-#[derive(Drop)]
+#[derive(Clone, Copy)]
 struct Counts {
     again: u64,
     same: u64,

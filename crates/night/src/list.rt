@@ -15,7 +15,7 @@ pub const CALLS: usize = 24;
 
 const WORDS: usize = 8 * CALLS;
 
-#[derive(Drop)]
+#[derive(Clone, Copy)]
 pub struct Memory {
     pub kept: [u64; KEPT],
     pub table: [u64; TABLE],
@@ -23,14 +23,14 @@ pub struct Memory {
 }
 
 // A call that was made: the memory after it, the number that it returned, and its answer.
-#[derive(Drop)]
+#[derive(Clone, Copy)]
 pub struct Made {
     pub memory: Memory,
     pub code: u64,
     pub answer: [u64; 8],
 }
 
-#[derive(Drop)]
+#[derive(Clone, Copy)]
 pub struct List {
     pub verbs: [u8; CALLS],
     pub inputs: [u64; WORDS],

@@ -1,6 +1,8 @@
 // The fire night again: one command that takes a mapping away, and a power cut after each number of stores; beside it the same
 // stores with RD first, as they were made that night. Then a whole night, which stands in the input, and a power cut after each
 // number of its stores.
+#![tactic(auto)]
+
 mod cuts;
 mod list;
 mod made;

@@ -8,7 +8,7 @@ use crate::{list, made};
 use text::told;
 
 // The calls with what came of them, how many there are, the memories before and after, and the stores of all.
-#[derive(Drop)]
+#[derive(Clone, Copy)]
 pub struct Whole {
     pub list: List,
     pub count: usize,

@@ -1,5 +1,7 @@
 // The fire panel beside the recorder: a record is written, power goes after each number of stores, and the panel reads what waits.
 // Beside it, what it would have read from a recorder that stores the index first.
+#![tactic(auto)]
+
 mod scene;
 
 use text::{say, told};

@@ -1,1 +1,2 @@
 // Theorems over the definitions of the other crates: no code.
+#![tactic(auto)]

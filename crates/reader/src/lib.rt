@@ -1,18 +1,20 @@
 // The queue as a reader: the guest's bytes, borrowed, and the index of a slot. The rules are functions of bytes and an
 // index; those over the struct only take it apart or put it together, and `second` asks no struct of its caller.
+#![tactic(auto)]
+
 ghost use Rattle.std.specs.Prelude.{◌≡◌};
 ghost use Rattle.reader.specs.Slots.{read_at, after, slots_left, begun, moved_on};
 
 use commands::{Decoded, Features};
 
-#[derive(Drop)]
+#[derive(Clone, Copy)]
 pub struct Reader<'a> {
     pub bytes: &'a [u8],
     pub at: usize,
 }
 
 // What stands at an index.
-#[derive(Drop)]
+#[derive(Clone, Copy)]
 pub enum Reading {
     Command(Decoded),
     PastEnd,

@@ -1,4 +1,6 @@
 // Filling a row of the second lent table: the base is stored first and word 0 last, so that a row is seen whole or not at all.
+#![tactic(auto)]
+
 ghost use Rattle.std.specs.Prelude.{◌≡◌, ◌+◌, ◌*◌, ◌≤◌, ◌<◌, length, set};
 ghost use Rattle.words.specs.Outcomes.{Gives};
 ghost use Rattle.region_fills.specs.Fills.{store_at, fit, fill_row, fill, Stores};
@@ -7,7 +9,7 @@ use fills::{FillEnd, Filling};
 use regions::Region;
 
 // Why a fill is refused.
-#[derive(Drop)]
+#[derive(Clone, Copy)]
 pub enum FillRefusal {
     Image(image::Refusal),
     Table(regions::Refusal),
@@ -16,7 +18,7 @@ pub enum FillRefusal {
     Unfit,
 }
 
-#[derive(Drop)]
+#[derive(Clone, Copy)]
 pub enum FillAnswer {
     Refused(FillRefusal),
     Done(Filling),

@@ -1,4 +1,6 @@
 // Document 02, T-11: which rows of the second table a command removes.
+#![tactic(auto)]
+
 ghost use Rattle.std.specs.Prelude.{◌≡◌};
 ghost use Rattle.region_scopes.specs.Scopes.{is_regional, in_table};
 

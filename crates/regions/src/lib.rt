@@ -1,4 +1,6 @@
 // The second lent table: cached regions of the device permission table, rows of two words.
+#![tactic(auto)]
+
 use words::Found;
 
 mod fields;
@@ -16,21 +18,21 @@ pub use scopes::{address_of, in_all, in_region, in_region_of, length_of, names_r
 pub const MAX_ROWS: usize = 128;
 
 // The two words of a row.
-#[derive(Drop)]
+#[derive(Clone, Copy)]
 pub struct Region {
     pub w0: u64,
     pub w1: u64,
 }
 
 // Why a table is refused: its length, or its lowest ill-formed row.
-#[derive(Drop)]
+#[derive(Clone, Copy)]
 pub enum Refusal {
     BadLength,
     BadRow(usize),
 }
 
 // What a check answers: the number of rows, or a refusal.
-#[derive(Drop)]
+#[derive(Clone, Copy)]
 pub enum Checked {
     Accepted(usize),
     Refused(Refusal),

@@ -1,24 +1,26 @@
 // The control fields unpacked, lent by reference: acknowledging changes them in place.
+#![tactic(auto)]
+
 ghost use Rattle.std.specs.Prelude.{◌≡◌};
 ghost use Rattle.registers.specs.Registers.{packed, fits, decided, Acknowledges};
 
 use control::{Fields, places};
 
 // Why an acknowledge is refused: the fields make no well-formed word, or no error is active.
-#[derive(Drop)]
+#[derive(Clone, Copy)]
 pub enum RegistersRefusal {
     IllFormed,
     NoError,
 }
 
-#[derive(Drop)]
+#[derive(Clone, Copy)]
 pub enum RegistersAnswer {
     Refused(RegistersRefusal),
     Acknowledged,
 }
 
 // What is answered, and GERRORN then.
-#[derive(Drop)]
+#[derive(Clone, Copy)]
 pub struct Decision {
     pub answer: RegistersAnswer,
     pub gerrorn: u64,

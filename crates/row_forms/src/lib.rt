@@ -1,4 +1,6 @@
 // Document 01, The kept memory, with document 02, T-04 and T-05: which rows are well formed.
+#![tactic(auto)]
+
 ghost use Rattle.std.specs.Prelude.{◌≡◌, true, false, ◌&&◌, ◌<◌, eqb, leb};
 ghost use Rattle.std.specs.Int.Bits.{bit_and};
 ghost use Rattle.attributes.specs.Formats as attributes;

@@ -1,4 +1,6 @@
 // The rows of cached structures: four words, and their parts.
+#![tactic(auto)]
+
 mod fields;
 pub mod kinds;
 pub mod marks;
@@ -10,7 +12,7 @@ pub use fields::{
 };
 
 // The four words of a row.
-#[derive(Drop)]
+#[derive(Clone, Copy)]
 pub struct Row {
     pub w0: u64,
     pub w1: u64,
@@ -19,7 +21,7 @@ pub struct Row {
 }
 
 // The parts of words 0 and 1, but for the attributes.
-#[derive(Drop)]
+#[derive(Clone, Copy)]
 pub struct Parts {
     pub kind: u64,
     pub last: bool,

@@ -1,4 +1,6 @@
 // One run over the command queue.
+#![tactic(auto)]
+
 mod running;
 
 ghost use Rattle.words.specs.Outcomes.{Gives};
@@ -11,7 +13,7 @@ use image::{Checked, Refusal};
 pub use running::queue_good;
 
 // Why a run ended; the error that it raised tells its reason and its slot.
-#[derive(Drop)]
+#[derive(Clone, Copy)]
 pub enum End {
     Off,
     Held,
@@ -21,7 +23,7 @@ pub enum End {
 }
 
 // What a run did, counted: commands, stores, rows that went, and among the commands the CMD_SYNCs with CS 1.
-#[derive(Drop)]
+#[derive(Clone, Copy)]
 pub struct Ran {
     pub end: End,
     pub consumed: u64,
@@ -31,14 +33,14 @@ pub struct Ran {
 }
 
 // Why a run is refused: the image, the second table, or the queue's length.
-#[derive(Drop)]
+#[derive(Clone, Copy)]
 pub enum RunRefusal {
     Image(Refusal),
     Table(regions::Refusal),
     BadQueue,
 }
 
-#[derive(Drop)]
+#[derive(Clone, Copy)]
 pub enum RunAnswer {
     Refused(RunRefusal),
     Done(Ran),

@@ -1,5 +1,7 @@
 // Document 02, T-13: what a row must be like to be in the scope of a command, by few tests of few words. What a command is about is
 // worked out once; whether a row that is let through is in scope the scope itself says.
+#![tactic(auto)]
+
 ghost use Rattle.std.specs.Prelude.{◌≡◌, ◌*◌, ◌^◌, ◌≤◌};
 ghost use Rattle.scope_screens.specs.ScopeScreens.{regime_at, aimed, of_block, of_context, screen_of};
 

@@ -1,4 +1,6 @@
 // Document 01, Commands and their scopes, with document 02, T-05, T-07 and T-11: which rows a legal command removes.
+#![tactic(auto)]
+
 mod invalidating;
 
 ghost use Rattle.std.specs.Prelude.{◌≡◌, ◌/◌, ◌^◌, ◌≤◌, ◌<◌, eqb};
@@ -13,7 +15,7 @@ pub use invalidating::invalidates;
 use rows::{Row, kinds, marks};
 
 // The 2^span streams that are equal to one of them above their lowest span bits.
-#[derive(Drop)]
+#[derive(Clone, Copy)]
 pub struct Block {
     pub stream: u64,
     pub span: u64,

@@ -1,5 +1,7 @@
 // Document 02, T-13: quick tests that let a row through if it may be one that is looked for, and the next row that a test lets
 // through. The rows are looked at in loops over plain numbers; whether such a row is the one, its own rule says.
+#![tactic(auto)]
+
 pub mod answering;
 mod covering;
 mod marked;
@@ -15,7 +17,7 @@ ghost use Rattle.screens.specs.Screens.{ahead, next_of, Within};
 use words::Found;
 
 // What a row must be like.
-#[derive(Drop)]
+#[derive(Clone, Copy)]
 pub enum Screen {
     // No row is let through.
     Nobody,

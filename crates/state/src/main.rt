@@ -1,5 +1,7 @@
 // Prints the state of the image whose bytes are on standard input. More bytes than fit the buffer are more than any image has,
 // and those that fit are refused for it.
+#![tactic(auto)]
+
 use image::Refusal;
 use image_state::{State, StateAnswer};
 use libc::{STDIN_FILENO, STDOUT_FILENO};

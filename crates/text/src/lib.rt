@@ -1,4 +1,6 @@
 // What the programs read and write: words in lines of standard input, and text with words in it on standard output.
+#![tactic(auto)]
+
 mod input;
 mod output;
 

@@ -1,4 +1,6 @@
 // One transaction: the STE row, its overrides, stage 1, stage 2, and the attributes as they leave.
+#![tactic(auto)]
+
 mod steps;
 
 ghost use Rattle.std.specs.Prelude.{◌≡◌};
@@ -8,7 +10,7 @@ use attributes::Attributes;
 use image::Checked;
 
 // What comes in.
-#[derive(Drop)]
+#[derive(Clone, Copy)]
 pub struct Transaction {
     pub stream: u64,
     pub substream: u64,
@@ -20,14 +22,14 @@ pub struct Transaction {
 }
 
 // What a stage hands to the next.
-#[derive(Drop)]
+#[derive(Clone, Copy)]
 pub struct Access {
     pub address: u64,
     pub attributes: Attributes,
 }
 
 // What goes out.
-#[derive(Drop)]
+#[derive(Clone, Copy)]
 pub struct Output {
     pub address: u64,
     pub attributes: Attributes,
@@ -36,7 +38,7 @@ pub struct Output {
 }
 
 // The row that was looked for and is not there.
-#[derive(Drop)]
+#[derive(Clone, Copy)]
 pub enum Miss {
     Ste,
     Cd,
@@ -45,13 +47,13 @@ pub enum Miss {
 }
 
 // What a stage answers.
-#[derive(Drop)]
+#[derive(Clone, Copy)]
 pub enum Staged {
     Passed(Access),
     Stopped(Miss),
 }
 
-#[derive(Drop)]
+#[derive(Clone, Copy)]
 pub enum Outcome {
     Translated(Output),
     Abort,
@@ -59,13 +61,13 @@ pub enum Outcome {
 }
 
 // Why a transaction is refused: the image, or its own attributes.
-#[derive(Drop)]
+#[derive(Clone, Copy)]
 pub enum TransactionRefusal {
     Image(image::Refusal),
     IllFormed,
 }
 
-#[derive(Drop)]
+#[derive(Clone, Copy)]
 pub enum TransactionAnswer {
     Refused(TransactionRefusal),
     Done(Outcome),

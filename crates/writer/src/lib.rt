@@ -1,4 +1,6 @@
 // Document 02, T-10: a command that is asked for by its fields, written into a slot of the queue.
+#![tactic(auto)]
+
 mod encoding;
 mod fields;
 
@@ -17,33 +19,33 @@ pub const WIDE: usize = 16;
 pub const SLOT: usize = 16;
 
 // A command's two words.
-#[derive(Drop)]
+#[derive(Clone, Copy)]
 pub struct Coded {
     pub lo: u64,
     pub hi: u64,
 }
 
 // What is wrong with a command that is asked for: a feature is missing; a field does not fit, or the command would be illegal.
-#[derive(Drop)]
+#[derive(Clone, Copy)]
 pub enum Fault {
     Missing,
     Unfit,
 }
 
-#[derive(Drop)]
+#[derive(Clone, Copy)]
 pub enum Verdict {
     Fit(Coded),
     Faulty(Fault),
 }
 
 // Why writing is refused: the slot's length, or the command.
-#[derive(Drop)]
+#[derive(Clone, Copy)]
 pub enum WriteRefusal {
     BadSlot,
     Bad(Fault),
 }
 
-#[derive(Drop)]
+#[derive(Clone, Copy)]
 pub enum WriteAnswer {
     Refused(WriteRefusal),
     Written,

@@ -4,6 +4,8 @@
 // adds one to it, each filled up with zeros to sixteen words, and - adds words as they stand. k starts a kept memory with these
 // words, r adds a row to it; q makes a queue of so many bytes, zero but for the words from a place on. b writes the batch with
 // these features, and g runs with features and an allowance. Each w, b and g is a line of output or two.
+#![tactic(auto)]
+
 mod calls;
 mod show;
 
