@@ -4,16 +4,16 @@ use mathlib.Core.Path.{◌≡◌, refl, sym, ap, ap₂, ◌∙◌}
 use mathlib.Core.Bool.{Bool, true, false, ◌&&◌, ◌||◌}
 use mathlib.Core.List.{List, [], ◌∷◌, map}
 use mathlib.Core.Logic.{◌⊎◌, inl, inr, ⊎_elim}
-use Prim.Native.Nat.{ℕ, ◌+◌, ◌-◌, ◌*◌, ◌/◌, ◌%◌, ◌^◌, ◌≤◌, ◌<◌}
+use Prim.Native.Nat.{ℕ, ◌+◌, ◌-◌, ◌/◌, ◌%◌, ◌^◌, ◌≤◌, ◌<◌}
 use native.Mathlib.Omega.{arith}
 use lib.Arith.{digits_lt}
 use lib.Dec.{T, eqb, leb, ltb, leb→le}
-use lib.Pow.{pow-add, shr-shr, field, mod-mod-pow}
+use lib.Pow.{shr-shr, field, mod-mod-pow}
 use borrow.Author.Tests.{leb-true, leb-false, le-leb, lt-leb, lt-ltb}
 use Rattle.words.specs.Choice.{pick}
 use Rattle.words.specs.Parts.{part, is_set, put, joined}
-use Rattle.words.specs.Ranges.{Range, bits, get, set, width, Field, puts, named}
-use Rattle.words.proofs.Truth.{truth, left, right, and_true, or_left, or_right, same_test, less_or_not, T-left, T-right}
+use Rattle.words.specs.Ranges.{Range, bits, get, set, Field, puts, named}
+use Rattle.words.proofs.Truth.{truth, and_true, or_left, or_right, same_test, less_or_not, T-left, T-right}
 use Rattle.words.proofs.Parts.{ordered, apart, keeps, put_same, put-lt, put-within}
 use Rattle.words.proofs.Masks.{same_bits}
 use Rattle.words.proofs.TwoWords.{set-low, set-high}

@@ -4,10 +4,10 @@ use mathlib.Core.Path.{◌≡◌, refl, sym, ap, ap₂, ◌∙◌}
 use mathlib.Core.List.{List, [], ◌∷◌, ◌++◌, append_assoc}
 use mathlib.Core.Logic.{◌⊎◌, inl, inr, ⊎_elim}
 use Prim.Native.Nat.{ℕ, zero, suc, ◌+◌, ◌*◌, ◌/◌, ◌%◌, ◌^◌, ◌≤◌, ◌<◌}
-use native.Mathlib.Nat.{add-zero, add-suc, add_comm, mul_comm, div-add-mod', div-lt_iff_lt-mul, pow-suc}
+use native.Mathlib.Nat.{add-suc, div-add-mod', div-lt_iff_lt-mul, pow-suc}
 use native.Mathlib.Omega.{arith}
 use lib.Arith.{lt-one}
-use lib.ListN.{length, get_or, take, drop, set, length-set}
+use lib.ListN.{length, get_or, take, drop, set}
 use lib.Seq.{drop-cons, sets, length-sets, sets-eq, drop_at, take_at, length-take-le, get_or-set_other}
 use Rattle.words.specs.Bytes.{little_endian, word_at, bytes_of, Bytes, none, one, with_word}
 

@@ -15,7 +15,7 @@ use Rattle.words.specs.Choice.{pick}
 use Rattle.words.specs.declared.Found.{Found}
 use Rattle.words.specs.declared.Found.TheVariants.{At, Nothing}
 use Rattle.words.specs.Search.{lowest, count, place_of}
-use Rattle.words.proofs.Truth.{clash, decided, left, right, less_or_not}
+use Rattle.words.proofs.Truth.{decided, left, right, less_or_not}
 
 -- k is the lowest number from i on and below n that passes
 pub record Lowest (p : ℕ → Bool) (n i k : ℕ) : Type 0 where

@@ -81,6 +81,7 @@ touches (suc i) (s ∷ ss) h = there (touches i ss (omega arith))
 -- what stood there before does not matter
 overwritten : (p v : ℕ) (ss : List Store) (m : List ℕ) → Touches p ss → after_stores (length ss) ss (set m p v) ≡ after_stores (length ss) ss m
 unfolding after_stores
+overwritten p v [] m x' = elim x' [ ]
 overwritten p v (s ∷ ss) m (here e) = ap (after_stores (length ss) ss) (rw e (set-set m s.at v s.value))
 overwritten p v (s ∷ ss) m (there t) = by_place (ℕ_discrete p s.at) (overwritten p v ss (set m s.at s.value) t)
   where

@@ -1,46 +1,22 @@
 -- `words::word_at` meets its contract: the eight bytes read are those of the part.
 -- Assumes nothing.
 use mathlib.Core.Path.{◌≡◌, ap, sym, ◌∙◌}
-use Prim.Native.Nat.{ℕ, ◌+◌}
+use Prim.Native.Nat.{ℕ}
 use native.Mathlib.Nat.{add-zero}
 use native.Mathlib.Omega.{arith}
-use borrow.Author.Rules.{rules}
 use lib.ListN.{take, drop, get_or}
 use mathlib.Core.List.{◌∷◌}
 use Rattle.words.specs.Bytes.{little_endian, word_at}
 use Rattle.words.proofs.Bytes.{reading, take_reads}
-use Rattle.words.proofs.word_at.Statement.{statement}
-use Rattle.words.proofs.word_at.Tie as tie
+use Rattle.words.proofs.word_at.Goals as goal
 
-returns : tie.Need-returns
+pub returns : goal.returns
 unfolding word_at
 returns c =
-    let s = c.before.before.before.before.before.before.before.before.before.before in
+    let s = c in
     let xs = s.args.bytes.now in
     let at = s.args.at in
     let reads : take 8 (drop at xs) ≡ get_or xs at 0 ∷ reading 7 xs at 1 =
     ap (λ (n : ℕ). take 8 (drop n xs)) (sym (add-zero at)) ∙ take_reads 8 xs at 0 (omega (arith, s.requires))
     ∙ ap (λ (n : ℕ). get_or xs n 0 ∷ reading 7 xs at 1) (add-zero at) in
     c.joined.ensures ∙ ap little_endian (sym reads)
-
-pub word-at-spec : {M : Type 1} → statement M
-word-at-spec =
-    tie.close
-    (tie.spec
-    (λ c. search rules)
-    (λ c. search rules)
-    (λ c. search rules)
-    (λ c. search rules)
-    (λ c. search rules)
-    (λ c. search rules)
-    (λ c. search rules)
-    (λ c. search rules)
-    (λ c. search rules)
-    (λ c. search rules)
-    (λ c. search rules)
-    (λ c. search rules)
-    (λ c. search rules)
-    (λ c. search rules)
-    (λ c. search rules)
-    (λ c κs. search rules)
-    returns)
