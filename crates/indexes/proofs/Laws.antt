@@ -1,7 +1,7 @@
 -- What the layers above use of the indexes, in place of their text.
 -- Assumes nothing.
-use Rattle.std.proofs.Common.{◌≡◌, ℕ, zero, suc, ◌+◌, ◌-◌, ◌*◌, ◌%◌, ◌^◌, ◌<◌, ◌≤◌, Bool, true, ◌&&◌, ltb, leb, sym, refl, ap, ◌∙◌, le_of_lt, mod-lt, mod-eq_of_lt, add_comm, arith, pow_pos, pow-add, ltb-true, lt-ltb, le-leb, leb-true}
-use native.Mathlib.Nat.{mod-le, mod-mod, mod-add-mod, add-mod-mod, add-mod_left, add-mod_right}
+use Rattle.std.proofs.Common.{◌≡◌, ℕ, zero, suc, ◌+◌, ◌-◌, ◌*◌, ◌%◌, ◌^◌, ◌<◌, ◌≤◌, true, ◌&&◌, leb, sym, refl, ap, ◌∙◌, le_of_lt, mod-lt, mod-eq_of_lt, add_comm, arith, pow_pos, pow-add, ltb-true, lt-ltb, le-leb, leb-true}
+use native.Mathlib.Nat.{mod-mod, mod-add-mod, add-mod-mod, add-mod_left, add-mod_right}
 use lib.Pow.{mod-mod-pow}
 use Rattle.words.proofs.Truth.{left, right, and_true}
 use Rattle.indexes.specs.Indexes.{slots, turn, in_range, distance, slot, next, well_formed}

@@ -1,7 +1,7 @@
 -- Counting modulo t: the way from one index to another.
 -- Assumes nothing.
-use Rattle.std.proofs.Common.{◌≡◌, ℕ, ◌+◌, ◌-◌, ◌%◌, ◌^◌, ◌<◌, ◌≤◌, sym, ap, ◌∙◌, le_of_lt, mod-lt, mod-eq_of_lt, arith}
-use native.Mathlib.Nat.{mod-add-mod, add-mod-mod, add-mod_right}
+use Rattle.std.proofs.Common.{◌≡◌, ℕ, ◌+◌, ◌-◌, ◌%◌, ◌^◌, ◌<◌, ◌≤◌, sym, ap, ◌∙◌, mod-eq_of_lt, arith}
+use native.Mathlib.Nat.{mod-add-mod, add-mod_right}
 use lib.Pow.{mod-mod-pow}
 
 -- going w + t - r on from r comes to w

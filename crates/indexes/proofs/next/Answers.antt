@@ -1,0 +1,12 @@
+-- `indexes::next` meets its contract: the sum wraps at a multiple of a turn.
+-- Assumes nothing.
+use Rattle.std.proofs.Common.{◌+◌, arith}
+use Rattle.indexes.specs.Indexes.{next}
+use Rattle.indexes.proofs.Rounds.{mod_64}
+use Rattle.indexes.proofs.next.Goals as goal
+
+pub returns : goal.returns
+unfolding next
+returns c =
+    let s = c in
+    rw (c.power.ensures.0, c.wrapping_add_u64.ensures.value) (mod_64 (s.args.n + 1) (s.args.rd + 1) (omega (arith, s.requires)))
