@@ -8,7 +8,6 @@ use lib.Dec.{eqb}
 use borrow.Author.Tests.{eqb-false}
 use Rattle.words.specs.Choice.{pick}
 use Rattle.control.specs.declared.Rest.TheVariants.{Off, Held, Empty}
-use Rattle.control.specs.declared.Standing.{Standing}
 use Rattle.control.specs.declared.Standing.TheVariants.{Resting, Open}
 use Rattle.control.specs.Control.{rd, wr, cmdqen, active, standing}
 

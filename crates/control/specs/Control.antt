@@ -4,7 +4,6 @@ use Rattle.std.specs.Prelude.{ℕ, Bool, not, ◌&&◌, ◌||◌, eqb, leb}
 use Rattle.words.specs.Choice.{pick}
 use Rattle.words.specs.Ranges.{Range, bits, get}
 use Rattle.indexes.specs.Indexes as indexes
-use Rattle.control.specs.declared.Rest.{Rest}
 use Rattle.control.specs.declared.Rest.TheVariants.{Off, Held, Empty}
 use Rattle.control.specs.declared.Standing.{Standing}
 use Rattle.control.specs.declared.Standing.TheVariants.{Resting, Open}
