@@ -1,6 +1,6 @@
 -- Document 01, The kept memory, with document 02, T-05: the four words of a row, and their parts.
 -- Assumes nothing.
-use Rattle.std.specs.Prelude.{ℕ, ◌+◌, ◌^◌, Bool, not, ◌&&◌, eqb, leb, ltb}
+use Rattle.std.specs.Prelude.{ℕ, ◌+◌, ◌^◌, Bool, ◌&&◌, eqb, leb, ltb}
 use Rattle.words.specs.Ranges.{Range, bits, get}
 use Rattle.attributes.specs.declared.Attributes.{Attributes}
 use Rattle.attributes.specs.declared.Overrides.{Overrides}
