@@ -5,17 +5,13 @@ use mathlib.Core.Bool.{Bool, true, false, not, ◌&&◌, ◌||◌}
 use lib.Dec.{eqb}
 use Rattle.words.specs.Choice.{pick}
 use Rattle.overrides.specs.Overrides.{forced}
-use Rattle.overrides.proofs.forced.Statement.{statement}
-use Rattle.overrides.proofs.forced.Tie as tie
+use Rattle.overrides.proofs.forced.Goals as goal
 
 cases : (off on incoming : Bool) → (not off && (on || incoming)) ≡ pick off false (pick on true incoming)
 cases true on incoming = refl
 cases false true incoming = refl
 cases false false incoming = refl
 
-returns : tie.Need-returns
+pub returns : goal.returns
 unfolding forced
 returns c = let k = c.args.cfg in cases (eqb k 2) (eqb k 3) c.args.incoming
-
-pub forced-spec : {M : Type 1} → statement M
-forced-spec = tie.close (tie.spec returns)
