@@ -1,23 +1,23 @@
 -- Each store to the control word: the part it sets, that it keeps every part beside that, and that the word stays well formed.
 -- Assumes nothing.
-use mathlib.Core.Path.{◌≡◌, refl, sym, ap, ap₂, ◌∙◌, subst}
-use mathlib.Core.Bool.{Bool, true, false, not, ◌&&◌}
+use mathlib.Core.Path.{◌≡◌, sym, ap, ap₂, ◌∙◌}
+use mathlib.Core.Bool.{Bool, true, false, not}
 use mathlib.Core.List.{List, [], ◌∷◌}
-use Prim.Native.Nat.{ℕ, ◌+◌, ◌-◌, ◌^◌, ◌≤◌, ◌<◌}
+use Prim.Native.Nat.{ℕ, ◌-◌, ◌^◌, ◌<◌}
 use native.Mathlib.Nat.{lt_of_lt_of_le}
 use native.Mathlib.Omega.{arith}
 use lib.Dec.{T, eqb, leb, lit<}
 use lib.Pow.{pow_mono}
-use borrow.Author.Tests.{eq-eqb, ne_eqb, eqb-true, eqb-false, not-false}
+use borrow.Author.Tests.{eq-eqb, ne_eqb, eqb-true, not-false}
 use Rattle.words.specs.Choice.{pick}
 use Rattle.words.specs.Ranges.{Range, get, set}
 use Rattle.words.proofs.Parts.{apart, keeps, reads_back, part_lt, all_apart, puts_keep}
 use Rattle.words.proofs.Truth.{left, clash}
 use Rattle.indexes.specs.Indexes as indexes
 use Rattle.indexes.proofs.Laws as indexed
-use Rattle.control.specs.Control.{rd_bits, wr_bits, err_bits, gerror_bits, gerrorn_bits, cmdqen_bits, log2size_bits, pending_bits, zero_bits, rd, wr, err, gerror, gerrorn, cmdqen, log2size, pending, active, distance, well_formed}
+use Rattle.control.specs.Control.{rd_bits, wr_bits, err_bits, gerror_bits, gerrorn_bits, cmdqen_bits, log2size_bits, pending_bits, zero_bits, rd, wr, err, gerror, gerrorn, cmdqen, log2size, pending, active, distance}
 use Rattle.control_stores.specs.Stores.{consumed, raised, may_ring, rung, acknowledged, pended, switched}
-use Rattle.control.proofs.Formed.{Formed, formed, is_formed}
+use Rattle.control.proofs.Formed.{Formed}
 
 -- the parts that raising the error touches
 abbrev pub raises : List Range
