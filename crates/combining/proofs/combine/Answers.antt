@@ -7,13 +7,11 @@ use native.Mathlib.Omega.{arith}
 use lib.Arith.{digits_div, digits_mod}
 use lib.Dec.{T}
 use lib.ListN.{length, get_or}
-use borrow.Author.Rules.{rules}
 use Rattle.words.specs.Parts.{part}
 use Rattle.words.proofs.Table.{obeys}
 use Rattle.combining.specs.Combining.{number, mem_attr_of, sh_of, combine}
 use Rattle.combining.proofs.Tables.{holds, held}
-use Rattle.combining.proofs.combine.Statement.{statement}
-use Rattle.combining.proofs.combine.Tie as tie
+use Rattle.combining.proofs.combine.Goals as goal
 
 rule : ℕ → ℕ
 rule k = combine (k / 29) (k % 29)
@@ -22,9 +20,6 @@ cell : (xs : List ℕ) (a b : ℕ) → length xs ≡ 841 → T (obeys (holds rul
 unfolding rule
 cell xs a b size t h k = held rule xs t (a * 29 + b) (omega arith) ∙ ap₂ combine (digits_div a k) (digits_mod a k)
 
-returns : tie.Need-returns
+pub returns : goal.returns
 unfolding rule combine number mem_attr_of sh_of part
 returns c = c.wide.ensures.0 ∙ search (cell, tt)
-
-pub combine-spec : {M : Type 1} → statement M
-combine-spec = tie.close (tie.spec (λ c. search rules) (λ c. search rules) (λ c. search rules) (λ c κs. search rules) returns)
