@@ -6,7 +6,6 @@ use mathlib.Core.List.{map}
 use Prim.Native.Nat.{ℕ}
 use Rattle.words.specs.Ranges.{get}
 use Rattle.commands.specs.declared.Target.{Target}
-use Rattle.commands.specs.declared.Command.{Command}
 use Rattle.commands.specs.declared.Command.TheVariants.{PrefetchConfig, PrefetchAddr, CfgiSte, CfgiSteRange, CfgiCd, CfgiCdAll, TlbiNhAll, TlbiNhAsid, TlbiNhVa, TlbiNhVaa, TlbiEl2All, TlbiEl2Asid, TlbiEl2Va, TlbiEl2Vaa, TlbiS12Vmall, TlbiS2Ipa, TlbiNsnhAll, Sync, DptiAll, DptiPa}
 use Rattle.commands.specs.Formats.{stream_bits, substream_bits, vmid_bits, asid_bits, cs_bits, leaf_bits, range_bits, page_bits, ipa_page_bits, dpt_page_bits, size_bits, is_set_in, target_of, code_in}
 use Rattle.commands.specs.Decoding.{command_of}

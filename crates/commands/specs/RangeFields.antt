@@ -1,7 +1,7 @@
 -- Document 02, T-07: which bits of a range may be set, and the verdict on its fields, as a table to hold decoding to: of 13, with every
 -- TG, TTL and TTL128 and with NUM and SCALE 0 or 1. Reasons are numbers, legal is 0.
 -- Assumes nothing.
-use Rattle.std.specs.Prelude.{ℕ, ◌+◌, ◌*◌, ◌^◌, Bool, true, false, not, ◌&&◌, ◌||◌, List, [], ◌∷◌, eqb}
+use Rattle.std.specs.Prelude.{ℕ, ◌+◌, ◌*◌, ◌^◌, Bool, true, false, not, ◌&&◌, ◌||◌, [], ◌∷◌, eqb}
 use Rattle.words.specs.Choice.{pick}
 use Rattle.words.specs.Ranges.{named}
 use Rattle.commands.specs.declared.Features.{Features}
