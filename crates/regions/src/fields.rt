@@ -17,6 +17,7 @@ pub fn is_known(code: u64) -> bool
 }
 
 // A match and no table, which would be built anew at every use.
+#[tactic(auto, unfolding(crate::specs::Regions::log2_size))]
 fn log2_size(code: u64) -> u64
     ensures { (result ≡ log2_size code) × (result < 64) }
 {
