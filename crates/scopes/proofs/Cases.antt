@@ -1,15 +1,15 @@
 -- What each code removes, and whether a command is idle, by the tests that the code makes.
 -- Assumes nothing.
 use mathlib.Core.Path.{◌≡◌}
-use mathlib.Core.Bool.{Bool, false, not, ◌&&◌, ◌||◌}
+use mathlib.Core.Bool.{Bool, not, ◌&&◌, ◌||◌}
 use Prim.Native.Nat.{ℕ}
 use Rattle.rows.specs.declared.Row.{Row}
 use Rattle.rows.specs.Rows as rows
 use Rattle.commands.specs.declared.Features.{Features}
 use Rattle.commands.specs.declared.Target.{Target}
 use Rattle.commands.specs.declared.Command.{Command}
-use Rattle.commands.specs.declared.Command.TheVariants.{PrefetchConfig, PrefetchAddr, CfgiSte, CfgiSteRange, CfgiCd, CfgiCdAll, TlbiNhAll, TlbiNhAsid, TlbiNhVa, TlbiNhVaa, TlbiEl2All, TlbiEl2Asid, TlbiEl2Va, TlbiEl2Vaa, TlbiS12Vmall, TlbiS2Ipa, TlbiNsnhAll, Sync}
-use Rattle.scopes.specs.Scopes.{spared, one, open_bits, ste_of, cd_of, cd_at, stage_of, stage_at, own_of, own_at, is_e2h, has_asid, is_stage, narrow, removes, too_wide, idle}
+use Rattle.commands.specs.declared.Command.TheVariants.{CfgiSte, CfgiSteRange, CfgiCd, CfgiCdAll, TlbiNhAll, TlbiNhAsid, TlbiNhVa, TlbiNhVaa, TlbiEl2All, TlbiEl2Asid, TlbiEl2Va, TlbiEl2Vaa, TlbiS12Vmall, TlbiS2Ipa}
+use Rattle.scopes.specs.Scopes.{spared, one, open_bits, ste_of, cd_of, cd_at, stage_of, stage_at, own_of, own_at, is_e2h, has_asid, narrow, removes, too_wide, idle}
 
 module _ (row : Row) where
   pub removes-03 : (s : ℕ) (l : Bool) (x y z : Bool) → x ≡ ste_of row (one s) → y ≡ spared row l → z ≡ cd_of row (one s)

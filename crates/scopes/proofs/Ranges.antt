@@ -2,22 +2,20 @@
 -- granule. With TG 0 that is the one address.
 -- Assumes nothing.
 use mathlib.Core.Path.{◌≡◌, refl, sym, ap, ◌∙◌}
-use mathlib.Core.Bool.{Bool, true, false, not, ◌&&◌, ◌||◌}
-use mathlib.Core.Logic.{⊎_elim}
+use mathlib.Core.Bool.{Bool, true, false}
 use Prim.Native.Nat.{ℕ, zero, suc, ◌+◌, ◌-◌, ◌*◌, ◌/◌, ◌%◌, ◌^◌, ◌≤◌, ◌<◌, max, min}
 use native.Mathlib.Nat.{le_trans, mul-le-mul_left, mul-le-mul_right, mul-pos, div-add-mod', div-one, mul-one}
 use native.Mathlib.Omega.{arith}
-use lib.Dec.{eqb, ltb}
+use lib.Dec.{eqb}
 use lib.ListN.{get_or}
 use lib.Pow.{pow_pos, pow_mono}
 use borrow.Author.Tests.{ne_eqb}
 use Rattle.words.specs.Choice.{pick}
-use Rattle.words.specs.Parts.{part}
 use Rattle.words.specs.Ranges.{bits}
 use Rattle.words.specs.Spans.{overlap}
 use Rattle.words.proofs.Parts.{part_lt}
 use Rattle.words.proofs.Spans.{is-overlap, first-ends-later, second-ends-later, overlap-shared, shared-overlap}
-use Rattle.words.proofs.Truth.{same_test, decided}
+use Rattle.words.proofs.Truth.{same_test}
 use Rattle.rows.specs.declared.Row.{Row}
 use Rattle.rows.specs.Rows as rows
 use Rattle.rows.proofs.Covering.{covers-means, means-covers}

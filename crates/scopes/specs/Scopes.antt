@@ -1,6 +1,6 @@
 -- Document 01, Commands and their scopes, with document 02, T-05, T-07 and T-11: which rows a legal command removes.
 -- Assumes nothing.
-use Rattle.std.specs.Prelude.{ℕ, ◌+◌, ◌*◌, ◌/◌, ◌^◌, max, Bool, true, false, not, ◌&&◌, ◌||◌, eqb}
+use Rattle.std.specs.Prelude.{ℕ, ◌+◌, ◌/◌, ◌^◌, max, Bool, true, false, not, ◌&&◌, ◌||◌, eqb}
 use Rattle.words.specs.Choice.{pick}
 use Rattle.words.specs.Parts.{part}
 use Rattle.rows.specs.declared.Row.{Row}
