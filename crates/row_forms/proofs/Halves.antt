@@ -16,7 +16,7 @@ use Rattle.attributes.specs.Formats as attributes
 use Rattle.rows.specs.declared.Row.{Row}
 use Rattle.rows.specs.Rows.{ste, cd, stage1, kind, is_last, is_empty, span, vmid, asid, is_global, mark, is_unmarked, el2, el2_e2h, valid_bits, attributes_of, covers}
 use Rattle.rows.proofs.Covering.{covers-means}
-use Rattle.row_forms.specs.WellFormed.{only_named, ste_good, address_bits, placed, half_bits, all_ones, in_half, begins, mark_good, RowRules, document01, present, stage_good_by, stage_good, good_by, well_formed_by, well_formed}
+use Rattle.row_forms.specs.WellFormed.{only_named, ste_good, address_bits, placed, half_bits, all_ones, in_half, begins, mark_good, RowRules, document01, present, stage_good_by, good_by, well_formed_by, well_formed}
 use Rattle.row_forms.proofs.LastLevel.{room}
 
 -- Above bit k, each of the 2 ^ n bytes from an aligned address on is what the first is.
