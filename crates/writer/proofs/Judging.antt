@@ -11,7 +11,7 @@ use borrow.Author.Tests.{eqb-true, eq-eqb, ne_eqb, ltb-true, lt-ltb}
 use Rattle.words.specs.Choice.{pick}
 use Rattle.words.specs.Outcomes.{Gives, with}
 use Rattle.words.specs.Parts.{joined}
-use Rattle.words.specs.Ranges.{all, width, get, puts}
+use Rattle.words.specs.Ranges.{all, width}
 use Rattle.words.specs.Search.{place_of}
 use Rattle.words.proofs.Outcomes.{gives}
 use Rattle.words.proofs.Truth.{same_test}
@@ -35,7 +35,7 @@ use Rattle.writer.specs.declared.WriteRefusal.{WriteRefusal}
 use Rattle.writer.specs.declared.WriteRefusal.TheVariants.{BadSlot, Bad}
 use Rattle.writer.specs.declared.WriteAnswer.TheVariants.{Refused, Written}
 use Rattle.writer.specs.Layouts.{wide, layout_of, width_at, read_at, fields_of}
-use Rattle.writer.specs.Writing.{asked, entries, encoded, whole, split, read_back, is_absent, lacks, fits, judged, slot_size, with_command, by_verdict, write}
+use Rattle.writer.specs.Writing.{asked, encoded, split, read_back, is_absent, lacks, fits, judged, slot_size, with_command, by_verdict, write}
 use Rattle.writer.proofs.ByCode.{whole_split}
 use Rattle.writer.proofs.Reading.{reads, read_fits}
 use Rattle.writer.proofs.Lines.{says, is_sound}

@@ -1,16 +1,15 @@
 -- The table of fields, line by line: it says what decoding reads, and its fields are apart.
 -- Assumes nothing.
 use mathlib.Core.Path.{◌≡◌, refl, sym, ap, ◌∙◌}
-use mathlib.Core.Bool.{Bool, true, false, not, ◌&&◌, ◌||◌}
+use mathlib.Core.Bool.{Bool, true, false, ◌&&◌, ◌||◌}
 use mathlib.Core.List.{List, [], ◌∷◌, map}
 use mathlib.Core.Logic.{⊎_elim}
-use Prim.Native.Nat.{ℕ, ◌+◌, ◌^◌, ◌<◌}
+use Prim.Native.Nat.{ℕ, ◌<◌}
 use native.Mathlib.Nat.{zero-add}
 use native.Mathlib.Omega.{arith}
 use lib.Dec.{T, eqb, leb, ltb}
 use lib.ListN.{length, get_or, get_or-eq_default}
 use borrow.Author.Tests.{eqb-true, eqb-false, ltb-true}
-use Rattle.words.specs.Choice.{pick}
 use Rattle.words.specs.Ranges.{Range, bits, get, width, named}
 use Rattle.words.specs.Search.{place_of}
 use Rattle.words.proofs.Truth.{passed, truth, clash, left, right, or_left, or_right, either, less_or_not}
@@ -20,7 +19,7 @@ use Rattle.words.proofs.Bits.{all_ordered}
 use Rattle.words.proofs.Search.{Each, done, ◌also◌, each_key, every, every_key}
 use Rattle.commands.specs.declared.Features.{Features}
 use Rattle.commands.specs.declared.Shape.{Shape}
-use Rattle.commands.specs.Formats.{code_bits, stream_bits, substream_bits, range_bits, leaf_bits, vmid_bits, asid_bits, page_bits, ipa_page_bits, dpt_page_bits, cs_bits, size_bits, ttl128_bits, is_set_in, target_of, codes, how_many, named_at}
+use Rattle.commands.specs.Formats.{stream_bits, substream_bits, range_bits, leaf_bits, vmid_bits, asid_bits, page_bits, ipa_page_bits, dpt_page_bits, cs_bits, size_bits, ttl128_bits, is_set_in, target_of, codes, how_many, named_at}
 use Rattle.commands.specs.Decoding.{code_of, place_in, known_code, command_of}
 use Rattle.writer.specs.Layouts.{wide, Named, field, code, stream, substream, range, leaf, vmid, asid, page, ipa_page, dpt_page, cs, size, ranged_by, bit, value_at, asking, layouts, fields_in, keys, layout_of, ranges, read_at, fields_of}
 use Rattle.writer.specs.RoundTrip.{is_blind}

@@ -2,7 +2,7 @@
 -- Assumes nothing.
 use mathlib.Core.Path.{◌≡◌, refl, sym, ap, ap₂, ◌∙◌}
 use mathlib.Core.Bool.{Bool, true, false, not, ◌&&◌, ◌||◌}
-use mathlib.Core.List.{List, [], ◌∷◌, map}
+use mathlib.Core.List.{List, [], ◌∷◌}
 use Prim.Native.Nat.{ℕ, zero, suc, ◌+◌, ◌^◌, ◌<◌}
 use native.Mathlib.Nat.{add-zero, add-suc, suc-add}
 use native.Mathlib.Omega.{arith}
@@ -12,10 +12,10 @@ use lib.ListN.{get_or}
 use borrow.Author.Tests.{eqb-true, eq-eqb, not-true}
 use Rattle.words.specs.Choice.{pick}
 use Rattle.words.specs.Ranges.{Range, Field, get, set, width, puts}
-use Rattle.words.proofs.Truth.{T-left, T-right, clash, passed, left, right, or_left, or_right}
+use Rattle.words.proofs.Truth.{T-left, T-right, clash, passed, left, or_left, or_right}
 use Rattle.words.proofs.Parts.{ordered, places, all_apart, within, all_within, part_lt, reads_back, puts_keep}
 use Rattle.words.proofs.Bits.{copies}
-use Rattle.writer.specs.Layouts.{Named, field, number_of, bits_of, ranges, width_at, read_at, spread}
+use Rattle.writer.specs.Layouts.{Named, field, ranges, width_at, read_at, spread}
 use Rattle.writer.specs.Writing.{asked, entries}
 
 -- the sixteen words of a function are its values

@@ -5,7 +5,7 @@ use mathlib.Core.Path.{◌≡◌, refl, sym, ap, ◌∙◌}
 use mathlib.Core.Bool.{Bool, true, false, not, ◌&&◌, ◌||◌}
 use mathlib.Core.List.{List}
 use mathlib.Core.Logic.{⊎_elim}
-use Prim.Native.Nat.{ℕ, zero, suc, ◌+◌, ◌/◌, ◌%◌, ◌^◌, ◌<◌}
+use Prim.Native.Nat.{ℕ, zero, suc, ◌^◌, ◌<◌}
 use native.Mathlib.Nat.{mod-lt, zero-div}
 use native.Mathlib.Omega.{arith}
 use lib.Dec.{eqb, ltb}
@@ -15,7 +15,7 @@ use lib.Seq.{ext_get_or}
 use borrow.Author.Tests.{eqb-true, eqb-false, lt-ltb}
 use Rattle.words.specs.Choice.{pick}
 use Rattle.words.specs.Parts.{part, is_set, put, joined}
-use Rattle.words.specs.Ranges.{Field, get, named, all, puts, width, set_only}
+use Rattle.words.specs.Ranges.{Field, get, named, puts, width, set_only}
 use Rattle.words.proofs.Truth.{clash, either}
 use Rattle.words.proofs.Table.{all-at, at_all}
 use Rattle.words.proofs.Parts.{part_lt, puts-within}
@@ -31,12 +31,11 @@ use Rattle.commands.specs.Decoding.{code_of, place_in, known_code, feature_prese
 use Rattle.commands.proofs.Legality.{clean_means}
 use Rattle.writer.specs.declared.Coded.{Coded}
 use Rattle.writer.specs.declared.Fault.TheVariants.{Missing, Unfit}
-use Rattle.writer.specs.declared.Verdict.{Verdict}
 use Rattle.writer.specs.declared.Verdict.TheVariants.{Fit, Faulty}
 use Rattle.writer.specs.Layouts.{wide, layout_of, ranges, width_at, read_at, fields_of}
 use Rattle.writer.specs.RoundTrip.{ReadsBack, is_blind}
-use Rattle.writer.specs.Writing.{asked, entries, encoded, whole, split, read_back, is_absent, lacks, fits, judged}
-use Rattle.writer.proofs.ByCode.{whole_split, split-whole}
+use Rattle.writer.specs.Writing.{asked, entries, encoded, split, read_back, lacks, fits, judged}
+use Rattle.writer.proofs.ByCode.{split-whole}
 use Rattle.writer.proofs.Reading.{read_fits, copied-entries, entries-low}
 use Rattle.writer.proofs.Lines.{says, is_sound, looked_at}
 use Rattle.writer.proofs.Judging.{told, agree, same-fits}

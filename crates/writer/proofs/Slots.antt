@@ -1,7 +1,7 @@
 -- Document 02, T-10: a command in a slot of the queue is read there, and every other slot stays; reading back and writing back, of bytes.
 -- Assumes nothing.
 use mathlib.Core.Path.{◌≡◌, refl, sym, ap, ap₂, ◌∙◌}
-use mathlib.Core.Bool.{Bool, true, false}
+use mathlib.Core.Bool.{false}
 use mathlib.Core.List.{List, [], ◌++◌, append-nil}
 use mathlib.Core.Logic.{◌⊎◌, inl, inr, ⊎_elim}
 use Prim.Native.Nat.{ℕ, ◌+◌, ◌*◌, ◌^◌, ◌≤◌, ◌<◌}
@@ -9,10 +9,8 @@ use native.Mathlib.Omega.{arith}
 use lib.ListN.{length, get_or, take, drop, length-drop, take-append-drop, drop_of_length-le}
 use lib.Seq.{sets, sets-eq, length-sets, take_all, length-take-le}
 use Rattle.words.specs.Bytes.{little_endian, word_at, bytes_of, Bytes, with_word}
-use Rattle.words.specs.Outcomes.{Outcome, with}
-use Rattle.words.specs.Choice.{pick}
+use Rattle.words.specs.Outcomes.{with}
 use Rattle.words.specs.Parts.{is_set, joined}
-use Rattle.words.specs.Ranges.{named}
 use Rattle.words.proofs.Bytes.{bytes_take, bytes_drop, little_lt, taken-apart, stored_there, stored-length, stored-word, stored-others, kept_word}
 use Rattle.words.proofs.Truth.{less_or_not}
 use Rattle.commands.specs.declared.Features.{Features}
@@ -20,13 +18,10 @@ use Rattle.commands.specs.declared.Command.{Command}
 use Rattle.commands.specs.declared.Decoded.TheVariants.{Legal}
 use Rattle.commands.specs.Decoding.{code_of, decode, decode_at}
 use Rattle.writer.specs.declared.Coded.{Coded}
-use Rattle.writer.specs.declared.Verdict.{Verdict}
-use Rattle.writer.specs.declared.Verdict.TheVariants.{Fit, Faulty}
-use Rattle.writer.specs.declared.WriteAnswer.{WriteAnswer}
-use Rattle.writer.specs.declared.WriteAnswer.TheVariants.{Refused, Written}
-use Rattle.writer.specs.Layouts.{wide, layout_of, ranges, fields_of}
+use Rattle.writer.specs.declared.WriteAnswer.TheVariants.{Written}
+use Rattle.writer.specs.Layouts.{wide, fields_of}
 use Rattle.writer.specs.RoundTrip.{SlotReadsBack, WritesAgain, is_blind}
-use Rattle.writer.specs.Writing.{encoded, split, judged, slot_size, with_command, write}
+use Rattle.writer.specs.Writing.{encoded, split, slot_size, with_command, write}
 use Rattle.writer.proofs.ByCode.{whole_split}
 use Rattle.writer.proofs.Judging.{wrote, writing}
 use Rattle.writer.proofs.RoundTrip.{low_lt, high_lt, reads_back, written-bit, writes-back, writes_again}

@@ -3,18 +3,16 @@
 use mathlib.Core.Path.{sym, ap, ◌∙◌}
 use Prim.Native.Nat.{ℕ, ◌^◌, ◌<◌}
 use native.Mathlib.Omega.{arith}
-use borrow.Author.Rules.{rules}
 use Rattle.words.specs.Parts.{joined}
 use Rattle.words.proofs.Bits.{put_low, put-high}
 use Rattle.words.proofs.Parts.{put-lt}
 use Rattle.writer.specs.Writing.{split}
 use Rattle.writer.proofs.ByCode.{split-whole}
-use Rattle.writer.proofs.encoding.put.Statement.{statement}
-use Rattle.writer.proofs.encoding.put.Tie as tie
+use Rattle.writer.proofs.encoding.put.Goals as goal
 
-returns : tie.Need-returns
-returns c =
-    let s = c.before.before in
+pub returns-then-l-lt64 : goal.returns-then-l-lt64
+returns-then-l-lt64 c =
+    let s = c in
     let a = s.args in
     let r = c.put.result in
     let fits : r < 2 ^ 64 = rw c.put.ensures (put-lt a.h a.l s.requires.0 a.v a.lo s.ranges.lo.fits (omega arith)) in
@@ -23,14 +21,11 @@ returns c =
     (ap (λ (x : ℕ). joined x a.hi) c.put.ensures
     ∙ sym (put_low a.lo a.hi a.h a.l a.v s.ranges.lo.fits s.ranges.hi.fits s.requires.0 (omega arith)))
 
-returns-2 : tie.Need-returns-2
-returns-2 c =
-    let s = c.before.before in
+pub returns : goal.returns
+returns c =
+    let s = c in
     let a = s.args in
-    sym (split-whole a.lo c.put2.result s.ranges.lo.fits)
+    sym (split-whole a.lo c.put-2.result s.ranges.lo.fits)
     ∙ ap split
-    (ap (joined a.lo) c.put2.ensures
-    ∙ sym (put-high a.lo a.hi a.h a.l a.v s.ranges.lo.fits s.ranges.hi.fits s.requires.0 c.before.if1.false (omega arith)))
-
-pub put_spec : {M : Type 1} → statement M
-put_spec = tie.close (tie.spec (λ c κs. search rules) returns (λ c. search rules) (λ c κs. search rules) returns-2)
+    (ap (joined a.lo) c.put-2.ensures
+    ∙ sym (put-high a.lo a.hi a.h a.l a.v s.ranges.lo.fits s.ranges.hi.fits s.requires.0 c.if-l-lt64.false (omega arith)))
