@@ -1,7 +1,7 @@
 -- What a single store leaves as it was, and that the image stays accepted.
 -- Assumes nothing.
 use mathlib.Core.Path.{◌≡◌, refl, sym, ap, ◌∙◌}
-use mathlib.Core.Bool.{Bool, true, false, not}
+use mathlib.Core.Bool.{true, not}
 use mathlib.Core.List.{List}
 use Prim.Native.Nat.{ℕ, suc, ◌+◌, ◌*◌, ◌≤◌, ◌<◌}
 use native.Mathlib.Decide.{ℕ_discrete}
@@ -14,7 +14,7 @@ use Rattle.control.specs.Control as control
 use Rattle.rows.specs.declared.Row.{Row}
 use Rattle.rows.specs.Rows.{is_empty}
 use Rattle.row_forms.specs.WellFormed as rows
-use Rattle.image.specs.Image.{max_rows, control_of, row_at, is_used, used_rows}
+use Rattle.image.specs.Image.{control_of, row_at, is_used, used_rows}
 use Rattle.image.proofs.Checks.{Long, Accepts}
 
 -- a word of row j
