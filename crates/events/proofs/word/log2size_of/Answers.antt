@@ -1,0 +1,9 @@
+-- `events::word::log2size_of` meets its contract: the part has five bits.
+-- Assumes nothing.
+use native.Mathlib.Omega.{arith}
+use Rattle.words.proofs.Parts.{part_lt}
+use Rattle.events.specs.Word.{log2size_bits}
+use Rattle.events.proofs.word.log2size_of.Goals as goal
+
+pub returns : goal.returns
+returns c = (c.part.ensures, omega (arith, c.part.ensures, part_lt log2size_bits c.args.w))
