@@ -1,7 +1,7 @@
 -- Document 02, T-11: no command removes rows of both tables, and an empty row is in no scope.
 -- Assumes nothing.
 use mathlib.Core.Path.{◌≡◌, refl}
-use mathlib.Core.Bool.{Bool, true, false}
+use mathlib.Core.Bool.{true, false}
 use Rattle.words.proofs.Truth.{clash}
 use Rattle.rows.specs.declared.Row.{Row}
 use Rattle.commands.specs.declared.Features.{Features}

@@ -8,6 +8,7 @@ use commands::Command;
 use regions::Region;
 
 // Whether a command is about the second table: 70 and 73.
+#[tactic(auto, unfolding(crate::specs::Scopes::is_regional))]
 pub fn is_regional(c: Command) -> bool
     ensures { result ≡ is_regional c }
 {
@@ -18,6 +19,7 @@ pub fn is_regional(c: Command) -> bool
     }
 }
 
+#[tactic(auto, unfolding(crate::specs::Scopes::in_table))]
 pub fn in_table(c: Command, row: Region) -> bool
     ensures { result ≡ in_table c row }
 {
