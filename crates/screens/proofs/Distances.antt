@@ -1,8 +1,7 @@
 -- Distances around 2 ^ 64: a row that covers an address, or shares one of some bytes, is near enough.
 -- Assumes nothing.
-use Rattle.std.proofs.Common.{◌≡◌, ℕ, ◌+◌, ◌-◌, ◌/◌, ◌%◌, ◌^◌, ◌<◌, ◌≤◌, true, sym, refl, ap, ◌∙◌, arith, pow_mono, lt-ltb, eq-eqb}
+use Rattle.std.proofs.Common.{◌≡◌, ℕ, ◌+◌, ◌-◌, ◌/◌, ◌%◌, ◌^◌, ◌<◌, ◌≤◌, true, arith, pow_mono, lt-ltb, eq-eqb}
 use native.Mathlib.Nat.{div-eq_of_lt}
-use lib.Pow.{pow-lt}
 use Rattle.words.proofs.Parts.{part_lt}
 use Rattle.rows.specs.declared.Row.{Row}
 use Rattle.rows.specs.Rows as rows

@@ -1,6 +1,6 @@
 -- What a mask of several fields leaves of a word: their numbers, each in its place.
 -- Assumes nothing.
-use Rattle.std.proofs.Common.{◌≡◌, ℕ, ◌+◌, ◌-◌, ◌*◌, ◌/◌, ◌%◌, ◌^◌, List, [], ◌∷◌, sym, refl, ap, ◌∙◌, ap₂, mul_assoc, mul_comm, add-mul, add_comm, zero-mul, mul-one, div-one, arith, pow_pos, pow-add, shr-shr}
+use Rattle.std.proofs.Common.{◌≡◌, ℕ, ◌+◌, ◌-◌, ◌*◌, ◌/◌, ◌%◌, ◌^◌, List, [], ◌∷◌, sym, ap, ◌∙◌, ap₂, mul_assoc, mul_comm, add-mul, add_comm, zero-mul, mul-one, div-one, arith, pow_pos, pow-add, shr-shr}
 use native.Mathlib.Nat.{mod-mod}
 use lib.Bits.{bit_and, and_shr, and_mod, and_mask, and_zero_r}
 use lib.Pow.{split, shl-shr, high, low, ones_lt}

@@ -1,0 +1,14 @@
+-- `screens::marked::skip` meets its contract: of the rows gone past none is let through.
+-- Assumes nothing.
+use Rattle.std.proofs.Common.{◌-◌}
+use Rattle.image.specs.Image.{row_at}
+use Rattle.screens.specs.Screens.{marked, Skips}
+use Rattle.screens.proofs.marked.skip.Given as goal
+
+abbrev pub invariant-loop-i : goal.invariant-loop-i
+invariant-loop-i l =
+    Skips (λ j. marked l.mask l.value (row_at l.kept j)) l.from l.to l.i
+
+abbrev pub decreases-loop-i : goal.decreases-loop-i
+decreases-loop-i l =
+    l.to - l.i

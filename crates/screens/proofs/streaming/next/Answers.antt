@@ -1,0 +1,22 @@
+-- `screens::streaming::next` meets its contract: what the whole search finds, the rest of it finds.
+-- Assumes nothing.
+use Rattle.std.proofs.Common.{sym, ◌∙◌}
+use Rattle.words.proofs.Search.{finds, passes, finds-none}
+use Rattle.screens.proofs.Groups.{resumes}
+use Rattle.screens.proofs.streaming.next.Goals as goal
+
+pub loop-i-init : goal.loop-i-init
+loop-i-init c = resumes c.requires.order c.skip-i.ensures
+
+pub returns-then-test : goal.returns-then-test
+returns-then-test c =
+    finds c.loop-i.invariant c.loop-i-test.true
+    (rw c.row_at.ensures at (sym c.test.ensures ∙ c.if-test.true))
+
+pub loop-i-preserved : goal.loop-i-preserved
+loop-i-preserved c =
+    passes c.loop-i.invariant c.loop-i-test.true
+    (rw c.row_at.ensures at (sym c.test.ensures ∙ c.if-test.false))
+
+pub returns : goal.returns
+returns c = finds-none c.loop-i.invariant c.loop-i-test.false
