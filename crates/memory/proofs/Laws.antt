@@ -2,7 +2,6 @@
 -- Assumes nothing.
 use mathlib.Core.Path.{◌≡◌, refl, sym, ap, ap₂, ◌∙◌}
 use mathlib.Core.Bool.{Bool, true, false, not}
-use mathlib.Core.List.{List}
 use mathlib.Core.Logic.{◌⊎◌, inl, inr, ⊎_elim}
 use Prim.Native.Nat.{ℕ, suc, ◌+◌, ◌-◌, ◌*◌, ◌/◌, ◌%◌, ◌≤◌, ◌<◌}
 use native.Mathlib.Decide.{ℕ_discrete}
@@ -10,7 +9,7 @@ use native.Mathlib.Omega.{arith}
 use lib.Dec.{eqb, ltb}
 use lib.ListN.{length, get_or, set, length-set}
 use lib.Seq.{get_or-set_same, get_or-set_other, ext_get_or}
-use borrow.Author.Tests.{eq-eqb, eqb-true, not-false, ltb-true, ltb-false, lt-ltb, le-ltb, not-true}
+use borrow.Author.Tests.{eq-eqb, eqb-true, not-false, ltb-true, ltb-false, lt-ltb, le-ltb}
 use Rattle.words.specs.Choice.{pick}
 use Rattle.words.proofs.Search.{count_same, count_less}
 use Rattle.words.proofs.Truth.{decided, clash, less_or_not}
@@ -29,7 +28,7 @@ use Rattle.regions.proofs.Checks as tables
 use Rattle.regions.proofs.AfterStores as regions
 use Rattle.region_scopes.specs.Scopes.{is_regional, in_table}
 use Rattle.region_scopes.proofs.Laws as region-scopes
-use Rattle.memory.specs.Memory.{Memory, control_of, kept_rows, table_rows, rows_in, is_kept, behind, word0, is_used, used_rows, scoped_at, Place, Control, Word0, in_kept, in_second, put, stored, cleared, Whole, SameSize, Untouched, SameRows, both}
+use Rattle.memory.specs.Memory.{Memory, control_of, kept_rows, table_rows, rows_in, is_kept, behind, word0, is_used, used_rows, scoped_at, in_kept, in_second, stored, cleared, Whole, SameSize, Untouched, SameRows, both}
 
 -- memory of n rows that refusals 1 to 3, 13 and 14 accept
 pub record Accepts (m : Memory) (n : ℕ) : Type 0 where
