@@ -1,10 +1,9 @@
 -- Every row in a command's scope passes the command's screen.
 -- Assumes nothing.
-use Rattle.std.proofs.Common.{◌≡◌, ℕ, ◌+◌, ◌-◌, ◌*◌, ◌/◌, ◌^◌, ◌<◌, ◌≤◌, max, true, false, not, ◌&&◌, ◌||◌, eqb, ◌⊎◌, [], ◌∷◌, sym, refl, ◌∙◌, ⊎_elim, div-one, arith, eq-eqb, eqb-true}
+use Rattle.std.proofs.Common.{◌≡◌, ℕ, ◌+◌, ◌-◌, ◌*◌, ◌/◌, ◌^◌, ◌<◌, ◌≤◌, max, true, false, not, ◌&&◌, ◌||◌, eqb, [], ◌∷◌, sym, refl, ◌∙◌, ⊎_elim, div-one, arith, eq-eqb, eqb-true}
 use lib.Bits.{bit_and, bit_or, bit_xor}
 use borrow.Author.Tests.{eqb-false, not-true}
-use Rattle.words.specs.Parts.{part}
-use Rattle.words.specs.Ranges.{Range, get}
+use Rattle.words.specs.Ranges.{get}
 use Rattle.words.proofs.Parts.{part_lt}
 use Rattle.words.proofs.Truth.{left, right, either, clash, decided, less_or_not}
 use Rattle.rows.specs.declared.Row.{Row}
@@ -20,7 +19,7 @@ use Rattle.scopes.proofs.Laws.{Scoped, scoped}
 use Rattle.scopes.proofs.Ranges.{single-length}
 use Rattle.screens.specs.declared.Screen.TheVariants.{Marked}
 use Rattle.screens.specs.Places.{mask_of, stages_bits, of_kind, of_mark, of_vmid, of_asid}
-use Rattle.screens.specs.Screens.{marked, named, streaming, near, about, passes}
+use Rattle.screens.specs.Screens.{marked, named, streaming, passes}
 use Rattle.screens.proofs.Answerers.{vmid-placed, asid-placed, stream-under}
 use Rattle.screens.proofs.Distances.{covers-near, shares-about}
 use Rattle.scope_screens.specs.ScopeScreens.{kind_mask, own_mask, own_asid_mask, stage_mask, stage_asid_mask, either_mask, any_mask, regime_at, aimed, of_block, of_context, screen_of}

@@ -1,6 +1,6 @@
 -- What a command by address reaches, in numbers; and how many bits a Range leaves open.
 -- Assumes nothing.
-use Rattle.std.proofs.Common.{◌≡◌, ℕ, ◌+◌, ◌-◌, ◌^◌, ◌<◌, ◌≤◌, Bool, true, false, eqb, ⊎_elim, arith}
+use Rattle.std.proofs.Common.{◌≡◌, ℕ, ◌+◌, ◌-◌, ◌^◌, ◌<◌, ◌≤◌, true, eqb, ⊎_elim, arith}
 use Rattle.words.specs.Ranges.{bits}
 use Rattle.words.proofs.Spans.{first-ends-later, second-ends-later}
 use Rattle.words.proofs.Parts.{part_lt}
