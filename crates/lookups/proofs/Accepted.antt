@@ -1,7 +1,7 @@
 -- What a hit in an accepted image is known to hold.
 -- Assumes nothing.
 use mathlib.Core.Path.{◌≡◌, refl}
-use mathlib.Core.Bool.{Bool, true, false, ◌&&◌, ◌||◌}
+use mathlib.Core.Bool.{true, false, ◌&&◌, ◌||◌}
 use mathlib.Core.List.{List}
 use Prim.Native.Nat.{ℕ, ◌+◌, ◌-◌, ◌^◌, ◌≤◌, ◌<◌}
 use native.Mathlib.Omega.{arith}
@@ -14,13 +14,12 @@ use Rattle.rows.specs.Rows.{ste, cd, stage1, stage2, kind, is_last, is_global, s
 use Rattle.rows.proofs.Covering.{covers-means}
 use Rattle.row_forms.specs.WellFormed as rows
 use Rattle.row_forms.proofs.LastLevel.{ste-mem-attr, span-few, output-placed, stage-attributes, room}
-use Rattle.image.specs.Image.{rows_in, row_at}
 use Rattle.image.proofs.Checks.{Accepts, rows_are}
 use Rattle.lookups.specs.declared.Wanted.{Wanted}
 use Rattle.lookups.specs.declared.Wanted.TheVariants.{Ste, Stage1, Stage2}
 use Rattle.lookups.specs.declared.Looked.TheVariants.{Hit}
-use Rattle.lookups.specs.Lookups.{fits, answers, look}
-use Rattle.lookups.proofs.Laws.{HitAt, hit_at, hit_answers, only_last, answers-fits}
+use Rattle.lookups.specs.Lookups.{fits, look}
+use Rattle.lookups.proofs.Laws.{hit_at, hit_answers, only_last, answers-fits}
 
 -- the address lies in the row, where the row moves it stays below the limit, and the row's attributes are well formed
 pub record StageHit (row : Row) (address : ℕ) : Type 0 where

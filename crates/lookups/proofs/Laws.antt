@@ -1,12 +1,11 @@
 -- Which row answers: the lowest that fits, a last-level one without a mark; and what may change in memory without changing it.
 -- Assumes nothing.
 use mathlib.Core.Path.{◌≡◌, refl, sym, ap, ◌∙◌}
-use mathlib.Core.Bool.{Bool, true, false, ◌&&◌}
+use mathlib.Core.Bool.{true, false}
 use mathlib.Core.List.{List}
 use mathlib.Core.Logic.{◌⊎◌, ⊎_elim}
-use Prim.Native.Nat.{ℕ, ◌+◌, ◌*◌, ◌-◌, ◌≤◌, ◌<◌}
+use Prim.Native.Nat.{ℕ, ◌<◌}
 use native.Mathlib.Omega.{arith}
-use Rattle.words.specs.Search.{lowest}
 use Rattle.words.specs.declared.Found.{Found}
 use Rattle.words.specs.declared.Found.TheVariants.{At, Nothing}
 use Rattle.words.proofs.Truth.{left, right, clash}
@@ -16,8 +15,7 @@ use Rattle.rows.specs.Rows.{is_last, is_unmarked, may_answer}
 use Rattle.rows.proofs.LastLevel.{answers-last, answers-unmarked}
 use Rattle.image.specs.Image.{rows_in, row_at}
 use Rattle.lookups.specs.declared.Wanted.{Wanted}
-use Rattle.lookups.specs.declared.Looked.{Looked}
-use Rattle.lookups.specs.declared.Looked.TheVariants.{Hit, NoRow}
+use Rattle.lookups.specs.declared.Looked.TheVariants.{Hit}
 use Rattle.lookups.specs.Lookups.{fits, answers, answers_at, find, row_found, look}
 
 -- row i is the lowest that answers
