@@ -41,12 +41,12 @@ overflow_as end (Done writing) was e = ap (λ (x : WriteEnd). overflow_by_end x 
 
 one_of : (r : Record) (answer : WriteAnswer) (q : List Record) → (queue_by_write r answer q ≡ q) ⊎ (queue_by_write r answer q ≡ q ++ (r ∷ []))
 one_of r (NotWritten why) q = inl refl
-one_of r (Done writing) q = by_end writing.end refl
+one_of r (Done writing) q = each_end writing.end refl
   where
-    by_end : (end : WriteEnd) → writing.end ≡ end → (by_end r writing.end q ≡ q) ⊎ (by_end r writing.end q ≡ q ++ (r ∷ []))
-    by_end Stored e = inr (rw e)
-    by_end Dropped e = inl (rw e)
-    by_end Cut e = inl (rw e)
+    each_end : (end : WriteEnd) → writing.end ≡ end → (by_end r writing.end q ≡ q) ⊎ (by_end r writing.end q ≡ q ++ (r ∷ []))
+    each_end Stored e = inr (rw e)
+    each_end Dropped e = inl (rw e)
+    each_end Cut e = inl (rw e)
 
 abbrev told : Outcome (List ℕ) WriteAnswer → WriteAnswer
 told o = o.answer
