@@ -1,6 +1,6 @@
 -- The screen of some words lets through each row that collides with them.
 -- Assumes nothing.
-use Rattle.std.proofs.Common.{◌≡◌, ℕ, ◌+◌, ◌-◌, ◌*◌, ◌%◌, ◌^◌, ◌<◌, ◌≤◌, Bool, true, false, ◌&&◌, eqb, List, get_or, sym, refl, ◌∙◌, ⊎_elim, arith, pow_pos, pow_mono, eqb-true}
+use Rattle.std.proofs.Common.{◌≡◌, ℕ, ◌+◌, ◌*◌, ◌%◌, ◌^◌, ◌<◌, ◌≤◌, Bool, true, false, ◌&&◌, eqb, List, get_or, sym, refl, ◌∙◌, ⊎_elim, arith, pow_pos, pow_mono, eqb-true}
 use lib.Bits.{bit_and}
 use Rattle.words.specs.Choice.{pick}
 use Rattle.words.proofs.Parts.{part_lt}
