@@ -1,15 +1,13 @@
 -- A transaction call: when it is refused, and what may change in memory without changing its answer.
 -- Assumes nothing.
-use mathlib.Core.Path.{◌≡◌, refl, sym, ap, ap₂, ◌∙◌}
-use mathlib.Core.Bool.{Bool, true, false, not}
+use mathlib.Core.Path.{◌≡◌, refl, sym, ap, ◌∙◌}
+use mathlib.Core.Bool.{false}
 use mathlib.Core.List.{List}
 use Prim.Native.Nat.{ℕ, ◌<◌}
-use Rattle.words.specs.Choice.{pick}
 use Rattle.attributes.specs.Formats.{well_formed}
 use Rattle.rows.specs.declared.Row.{Row}
-use Rattle.rows.specs.Rows.{vmid, asid, config}
+use Rattle.rows.specs.Rows.{vmid, asid}
 use Rattle.image.specs.declared.Refusal.{Refusal}
-use Rattle.image.specs.declared.Checked.{Checked}
 use Rattle.image.specs.declared.Checked.TheVariants.{Accepted, Refused}
 use Rattle.image.specs.Image.{rows_in, row_at, check}
 use Rattle.image.proofs.Checks.{rows_are, says}
@@ -23,11 +21,9 @@ use Rattle.transactions.specs.declared.Transaction.{Transaction}
 use Rattle.transactions.specs.declared.Access.{Access}
 use Rattle.transactions.specs.declared.Staged.{Staged}
 use Rattle.transactions.specs.declared.Staged.TheVariants.{Passed, Stopped}
-use Rattle.transactions.specs.declared.Outcome.TheVariants.{Abort}
 use Rattle.transactions.specs.declared.TransactionRefusal.TheVariants.{Image, IllFormed}
-use Rattle.transactions.specs.declared.TransactionAnswer.{TransactionAnswer}
 use Rattle.transactions.specs.declared.TransactionAnswer.TheVariants.{Refused as NotDone, Done}
-use Rattle.transactions.specs.Steps.{Formed, uses_stage1, uses_stage2, overridden, by_stage1, by_cd, stage1, by_stage2, stage2, onward, finished, by_ste, translation}
+use Rattle.transactions.specs.Steps.{Formed, overridden, by_stage1, by_cd, stage1, stage2, onward, by_ste, translation}
 use Rattle.transactions.specs.Call.{translate}
 
 module _ (m : List ℕ) (t : Transaction) where

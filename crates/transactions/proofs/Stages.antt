@@ -1,6 +1,6 @@
 -- How a stage passes an access on: as it came, or through the rows that answered.
 -- Assumes nothing.
-use mathlib.Core.Path.{◌≡◌, refl, sym, ◌∙◌}
+use mathlib.Core.Path.{◌≡◌, refl}
 use mathlib.Core.Bool.{Bool, true, false}
 use mathlib.Core.List.{List}
 use Prim.Native.Nat.{ℕ}
@@ -19,8 +19,7 @@ use Rattle.lookups.specs.Lookups.{look}
 use Rattle.lookups.proofs.Accepted.{stage1-hit, stage2-hit}
 use Rattle.transactions.specs.declared.Transaction.{Transaction}
 use Rattle.transactions.specs.declared.Access.{Access}
-use Rattle.transactions.specs.declared.Staged.{Staged}
-use Rattle.transactions.specs.declared.Staged.TheVariants.{Passed, Stopped}
+use Rattle.transactions.specs.declared.Staged.TheVariants.{Passed}
 use Rattle.transactions.specs.Steps.{Ready, uses_stage1, uses_stage2, replaced, by_stage1, by_cd, stage1, joined, by_stage2, stage2}
 use Rattle.transactions.proofs.Needs.{accepted, Proper, hit_proper}
 

@@ -5,7 +5,6 @@ use Rattle.words.specs.Choice.{pick}
 use Rattle.attributes.specs.Formats.{well_formed}
 use Rattle.image.specs.Image as image
 use Rattle.transactions.specs.declared.Transaction.{Transaction}
-use Rattle.transactions.specs.declared.Miss.{Miss}
 use Rattle.transactions.specs.declared.Miss.TheVariants.{Ste, Cd, Stage1, Stage2}
 use Rattle.transactions.specs.declared.Outcome.{Outcome}
 use Rattle.transactions.specs.declared.Outcome.TheVariants.{Translated, Abort, Missed}

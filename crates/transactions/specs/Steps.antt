@@ -17,7 +17,6 @@ use Rattle.lookups.specs.Lookups.{look}
 use Rattle.transactions.specs.declared.Transaction.{Transaction}
 use Rattle.transactions.specs.declared.Access.{Access}
 use Rattle.transactions.specs.declared.Output.{Output}
-use Rattle.transactions.specs.declared.Miss.{Miss}
 use Rattle.transactions.specs.declared.Miss.TheVariants.{Ste as MissSte, Cd as MissCd, Stage1 as MissStage1, Stage2 as MissStage2}
 use Rattle.transactions.specs.declared.Staged.{Staged}
 use Rattle.transactions.specs.declared.Staged.TheVariants.{Passed, Stopped}
