@@ -1,6 +1,6 @@
 -- Document 01, One run: what single store is due, from features, queue and memory alone.
 -- Assumes nothing.
-use Rattle.std.specs.Prelude.{◌≡◌, Bool, true, List, [], ◌∷◌, ℕ, ◌-◌, ◌≤◌, eqb}
+use Rattle.std.specs.Prelude.{◌≡◌, true, List, [], ◌∷◌, ℕ, ◌-◌, ◌≤◌, eqb}
 use Rattle.words.specs.Choice.{pick}
 use Rattle.words.specs.Ranges.{Range}
 use Rattle.words.specs.Search.{lowest}
