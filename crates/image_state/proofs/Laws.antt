@@ -1,23 +1,19 @@
 -- The state of an image, case by case, and the words in its bytes.
 -- Assumes nothing.
-use mathlib.Core.Path.{◌≡◌, refl, sym, ap, ◌∙◌}
-use mathlib.Core.Bool.{true, false}
-use mathlib.Core.List.{List, [], ◌∷◌, ◌++◌}
+use mathlib.Core.Path.{◌≡◌, refl, ◌∙◌}
+use mathlib.Core.List.{List, [], ◌∷◌}
 use Prim.Native.Nat.{ℕ, zero, suc, ◌+◌, ◌*◌, ◌/◌, ◌%◌, ◌≤◌, ◌<◌}
 use native.Mathlib.Numerals.{add-one}
 use native.Mathlib.Omega.{arith}
-use lib.Dec.{eqb}
 use lib.ListN.{length, take, set, length-append}
 use lib.Seq.{take-suc-set}
 use borrow.Author.Tests.{eq-eqb, ne_eqb}
-use Rattle.words.specs.Choice.{pick}
 use Rattle.words.specs.Bytes.{word_at}
 use Rattle.image.specs.declared.Refusal.{Refusal}
 use Rattle.image.specs.declared.Refusal.TheVariants.{BadLength}
 use Rattle.image.specs.declared.Checked.TheVariants.{Accepted, Refused as NotAccepted}
 use Rattle.image.specs.Image.{max_rows, control_of, check, used_rows}
 use Rattle.image.proofs.Checks.{Long, refuses_length, says}
-use Rattle.image_state.specs.declared.StateAnswer.{StateAnswer}
 use Rattle.image_state.specs.declared.StateAnswer.TheVariants.{Refused, Is}
 use Rattle.image_state.specs.States.{told, state_of, words_in, state_in}
 
