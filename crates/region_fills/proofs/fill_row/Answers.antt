@@ -1,0 +1,26 @@
+-- `region_fills::fill_row` meets its contract: each return is a case of the definition.
+-- Assumes nothing.
+use mathlib.Core.Path.{sym, ◌∙◌}
+use Rattle.words.proofs.Outcomes.{gives}
+use Rattle.region_fills.proofs.Cases.{used, unused, row-none, row-in-use, row-unfit, row_done, as_given, meets-done}
+use Rattle.region_fills.proofs.fill_row.Goals as goal
+
+pub returns-then-n-row : goal.returns-then-n-row
+returns-then-n-row c = gives (row-none _ _ _ _ _ c.if-n-row.true)
+
+pub returns-then-table-row-ne0 : goal.returns-then-table-row-ne0
+returns-then-table-row-ne0 c = gives (row-in-use _ _ _ _ _ c.if-n-row.false (used _ _ c.if-table-row-ne0.true))
+
+pub returns-then-not-is_fit : goal.returns-then-not-is_fit
+returns-then-not-is_fit c =
+    gives
+    (row-unfit _ _ _ _ _ c.if-n-row.false (unused _ _ c.if-table-row-ne0.false)
+    (sym c.is_fit.ensures ∙ c.if-not-is_fit.true))
+
+pub returns : goal.returns
+returns c =
+    let test = c in
+    as_given
+    (row_done _ _ _ _ _ test.if-n-row.false (unused _ _ test.if-table-row-ne0.false)
+    (sym test.is_fit.ensures ∙ test.if-not-is_fit.false))
+    (meets-done c.steps-done.ensures)
