@@ -21,12 +21,12 @@ use Rattle.commands.specs.declared.Decoded.TheVariants.{Legal, Illegal}
 use Rattle.commands.specs.Decoding.{decode_at, syncs_of}
 use Rattle.image.specs.Image as image
 use Rattle.regions.specs.Table as regions
-use Rattle.memory.specs.Memory.{Memory, control_of, rows_in, put, stored, cleared, Whole, SameSize}
+use Rattle.memory.specs.Memory.{Memory, control_of, rows_in, cleared, Whole, SameSize}
 use Rattle.memory.proofs.Laws.{control-stored, stored-whole, cleared-whole, control-cleared, size_refl, size-through, size-stored, size-cleared, rows-stored, rows-cleared}
 use Rattle.due.specs.declared.Stepped.{Stepped}
 use Rattle.due.specs.declared.Raising.{Raising}
 use Rattle.due.specs.declared.Stepped.TheVariants.{Removed, Consumed, DidRaise}
-use Rattle.due.specs.Due.{Due, Rests, Stores, scan, by_scan, after_command, NoneBelow, due_for, due, Ready, Made}
+use Rattle.due.specs.Due.{Due, scan, by_scan, after_command, NoneBelow, due_for, due, Ready, Made}
 use Rattle.due.proofs.Scans.{lowest-scoped, continues}
 use Rattle.due.proofs.Asked.{Removes, due-removes}
 use Rattle.due.proofs.Consuming.{after-keeps}
