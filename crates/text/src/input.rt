@@ -1,6 +1,6 @@
 // Lines of standard input: a letter, a space, what the line is about, a colon, and words in hex, each behind a space. They are
 // read a byte at a time, so that there may be as many as one likes.
-ghost use Rattle.std.specs.Prelude.{◌<◌};
+ghost use Rattle.std.specs.Prelude.{◌<◌, ◌≤◌, IfOk, length};
 
 use crate::output::say;
 use std::io;
@@ -103,4 +103,19 @@ pub fn spread(w: [u64; 8], bytes: &mut [u8]) {
         bytes[i] = byte_at(w, i);
         i += 1;
     }
+}
+
+// Reads until the bytes are full or the input ends; answers how many were read.
+pub fn read_full(input: &mut impl Read, to: &mut [u8]) -> io::Result<usize>
+    ensures { IfOk result (λ n. n ≤ length to.new) }
+{
+    let mut done = 0;
+    while done < to.len() {
+        let n = input.read(&mut to[done..])?;
+        if n == 0 {
+            break;
+        }
+        done += n;
+    }
+    Ok(done)
 }
