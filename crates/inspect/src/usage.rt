@@ -13,6 +13,15 @@ pub fn told(out: &mut impl Write) -> io::Result<()> {
         &mut *out,
         b"Tells in words what a dump holds, and what a run would do with it. No file is written.\n\n",
     )?;
+    options(&mut *out)?;
+    say(
+        &mut *out,
+        b"KEPT comes first. Rows, regions and slots are counted from 0.\n",
+    )
+}
+
+// What may be given, and what it is.
+fn options(out: &mut impl Write) -> io::Result<()> {
     say(
         &mut *out,
         b"  KEPT           the kept memory: little-endian 64-bit words\n",
@@ -48,9 +57,5 @@ pub fn told(out: &mut impl Write) -> io::Result<()> {
     say(
         &mut *out,
         b"                 They decide which commands are legal\n\n",
-    )?;
-    say(
-        &mut *out,
-        b"KEPT comes first. Rows, regions and slots are counted from 0.\n",
     )
 }
