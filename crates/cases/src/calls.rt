@@ -1,24 +1,33 @@
 // The calls, through the C interface but for a transaction's.
 use crate::show;
 use attributes::Attributes;
+use std::io;
+use std::io::Write;
 
 // c asks for the state; r runs with features and an allowance, and u tells the second table too; f fills a row with four words under
 // an allowance; g fills one of the second table with two; d rings with a WR; a acknowledges; p clears the pending bit; e enables or
 // disables; t translates. b checks, under features, the batch that ends at one byte of the queue beside that which begins at
 // another. Of a recorder w writes four words under an allowance, o reads the oldest, x acknowledges. A call that may store also tells
 // every word afterwards of what it stores to.
-pub fn call(verb: u8, w: [u64; 8], kept: &mut [u64], table: &mut [u64], queue: &[u8]) {
+pub fn call(
+    out: &mut impl Write,
+    verb: u8,
+    w: [u64; 8],
+    kept: &mut [u64],
+    table: &mut [u64],
+    queue: &[u8],
+) -> io::Result<()> {
     let mut answer = [0u64; 8];
     let code = made(verb, w, &mut *kept, &mut *table, queue, &mut answer);
-    show::reply(verb, code, answer);
+    show::reply(&mut *out, verb, code, answer)?;
     match verb {
-        b'b' | b'c' | b't' => text::say(b"\n"),
-        b'g' => text::listed(b"; table", &*table),
+        b'b' | b'c' | b't' => text::say(&mut *out, b"\n"),
+        b'g' => text::listed(&mut *out, b"; table", &*table),
         b'u' => {
-            text::listed(b"; kept", &*kept);
-            text::listed(b"  table", &*table);
+            text::listed(&mut *out, b"; kept", &*kept)?;
+            text::listed(&mut *out, b"  table", &*table)
         }
-        _ => text::listed(b"; kept", &*kept),
+        _ => text::listed(&mut *out, b"; kept", &*kept),
     }
 }
 

@@ -5,38 +5,49 @@
 ghost use Rattle.std.specs.Prelude.{◌+◌, ◌*◌, ◌≤◌, length};
 
 use commands::{Decoded, Features};
-use libc::STDIN_FILENO;
+use std::io;
+use std::io::{BufReader, BufWriter, Read, Write};
 use text::say;
 
-fn main() {
-    let high = text::digit(text::next());
-    let f = commands::features_of(16 * high + text::digit(text::next()));
-    text::next();
-    let mut input = io::large_buffer();
-    let n = io::read_full(STDIN_FILENO, &mut input);
-    queue(&input[..n], f);
+fn main(rt: HostRuntime) -> io::Result<()> {
+    let mut input = BufReader::new(rt.alloc(), rt.reader())?;
+    let mut out = BufWriter::new(rt.alloc(), io::writer(&rt))?;
+    let high = text::digit(text::next(&mut input)?);
+    let f = commands::features_of(16 * high + text::digit(text::next(&mut input)?));
+    text::next(&mut input)?;
+    let mut bytes = [0u8; 65536];
+    let n = text::read_full(&mut input, &mut bytes)?;
+    queue(&mut out, &bytes[..n], f)?;
     if n % 16 != 0 {
-        say(b"the last command is not whole\n");
+        say(&mut out, b"the last command is not whole\n")?;
     }
+    out.flush()
 }
 
-fn queue(bytes: &[u8], f: Features) {
+fn queue(out: &mut impl Write, bytes: &[u8], f: Features) -> io::Result<()> {
     let slots = bytes.len() / 16;
     let mut slot = 0;
     while slot < slots {
-        command(bytes, f, slot);
+        command(&mut *out, bytes, f, slot)?;
         slot += 1;
     }
+    Ok(())
 }
 
-fn command(bytes: &[u8], f: Features, slot: usize)
+fn command(out: &mut impl Write, bytes: &[u8], f: Features, slot: usize) -> io::Result<()>
     requires { 16 * slot + 16 ≤ length bytes.now }
 {
     if let Decoded::Illegal(why) = commands::decode_at(f, bytes, slot) {
         let lo = words::word_at(bytes, 16 * slot);
         let hi = words::word_at(bytes, 16 * slot + 8);
-        text::two(b"slot #, code $: ", slot as u64, words::part(lo, 7, 0));
-        command_text::reason(why, f, lo, hi);
-        say(b"\n");
+        text::two(
+            &mut *out,
+            b"slot #, code $: ",
+            slot as u64,
+            words::part(lo, 7, 0),
+        )?;
+        command_text::reason(&mut *out, why, f, lo, hi)?;
+        say(&mut *out, b"\n")?;
     }
+    Ok(())
 }

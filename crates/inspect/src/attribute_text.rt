@@ -1,6 +1,8 @@
 // Attributes, and what a stream overrides them by (document 01, The kept memory, and A transaction, step 2).
 use attributes::{Attributes, Overrides};
 use rows::Parts;
+use std::io;
+use std::io::Write;
 use text::{bit, one, say, told as said, two};
 
 // The MemAttrs below are Device types.
@@ -15,29 +17,35 @@ const WA: u64 = 2;
 
 const TR: u64 = 4;
 
-fn memory_type(m: u64) {
+fn memory_type(out: &mut impl Write, m: u64) -> io::Result<()> {
     if m < NORMAL {
-        one(b"{Device-nGnRnE|Device-nGnRE|Device-nGRE|Device-GRE}", m);
+        one(
+            &mut *out,
+            b"{Device-nGnRnE|Device-nGnRE|Device-nGRE|Device-GRE}",
+            m,
+        )
     } else {
         two(
+            &mut *out,
             b"Normal, outer {ill formed|NC|WT|WB}, inner {ill formed|NC|WT|WB}",
             m / 4 % 4,
             m % 4,
-        );
+        )
     }
 }
 
 // MemAttr and SH.
-pub fn attributes(a: Attributes) {
-    say(b"    ");
-    memory_type(a.memattr);
-    one(b", {NSH|SH 1, ill formed|OSH|ISH}", a.sh);
+pub fn attributes(out: &mut impl Write, a: Attributes) -> io::Result<()> {
+    say(&mut *out, b"    ")?;
+    memory_type(&mut *out, a.memattr)?;
+    one(&mut *out, b", {NSH|SH 1, ill formed|OSH|ISH}", a.sh)
 }
 
-pub fn hints(a: Attributes) {
+pub fn hints(out: &mut impl Write, a: Attributes) -> io::Result<()> {
     let i = attributes::inner_hints(a.hints);
     let o = attributes::outer_hints(a.hints);
     said(
+        &mut *out,
         b", inner hints{| none}{| RA}{| WA}{| TR}, outer hints{| none}{| RA}{| WA}{| TR}",
         [
             bit(i == 0),
@@ -49,41 +57,45 @@ pub fn hints(a: Attributes) {
             o / WA % 2,
             o / TR % 2,
         ],
-    );
+    )
 }
 
 // What a last-level STE row makes of an access.
-pub fn overrides(o: Overrides, p: Parts) {
-    one(b"    memory type (MTCFG #) ", o.mtcfg);
+pub fn overrides(out: &mut impl Write, o: Overrides, p: Parts) -> io::Result<()> {
+    one(&mut *out, b"    memory type (MTCFG #) ", o.mtcfg)?;
     if o.mtcfg == 1 {
-        memory_type(o.memattr);
+        memory_type(&mut *out, o.memattr)?;
     } else {
-        say(b"as it comes");
+        say(&mut *out, b"as it comes")?;
     }
     two(
+        &mut *out,
         b"; shareability (SHCFG #) {NSH|as it comes|OSH|ISH}",
         o.shcfg,
         o.shcfg,
-    );
-    hints_made(o.alloccfg);
+    )?;
+    hints_made(&mut *out, o.alloccfg)?;
     two(
+        &mut *out,
         b"    reads (INSTCFG #) {as they come|as they come|are data|are instructions}",
         p.instcfg,
         p.instcfg,
-    );
+    )?;
     two(
+        &mut *out,
         b"; privilege (PRIVCFG #) {as it comes|as it comes|unprivileged|privileged}\n",
         p.privcfg,
         p.privcfg,
-    );
+    )
 }
 
-fn hints_made(alloccfg: u64) {
-    one(b"; hints (ALLOCCFG 0x$) ", alloccfg);
+fn hints_made(out: &mut impl Write, alloccfg: u64) -> io::Result<()> {
+    one(&mut *out, b"; hints (ALLOCCFG 0x$) ", alloccfg)?;
     if alloccfg / ALLOC % 2 == 0 {
-        say(b"as they come\n");
+        say(&mut *out, b"as they come\n")
     } else {
         said(
+            &mut *out,
             b"RA #, WA #, TR # in cacheable halves\n",
             [
                 alloccfg / TR % 2,
@@ -95,6 +107,6 @@ fn hints_made(alloccfg: u64) {
                 0,
                 0,
             ],
-        );
+        )
     }
 }

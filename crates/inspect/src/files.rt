@@ -1,6 +1,10 @@
 // The files of a dump, as bytes and as words.
 ghost use Rattle.std.specs.Prelude.{◌-◌, ◌*◌, ◌≤◌, length};
 
+use crate::args;
+use std::io::Write;
+use std::rt::{Env, Files};
+use std::{fs, io};
 use text::{one, say};
 
 // The words of the largest kept memory, second table and recorder; of a queue one byte more than the longest has.
@@ -11,6 +15,9 @@ pub const TABLE: usize = 2 * regions::MAX_ROWS;
 pub const EVENTS: usize = 1 + (4 << events::MAX_LOG2);
 
 pub const QUEUE: usize = 1 + (16 << control::MAX_LOG2);
+
+// The bytes that a file of words is read into, which are more than any of them has.
+const LARGE: usize = 65536;
 
 // The bytes of a word.
 pub const WORD: usize = 8;
@@ -55,42 +62,45 @@ fn absent() -> Size {
     }
 }
 
-// Reads the file that argument i names, as far as it fits.
-pub fn bytes(i: usize, out: &mut [u8]) -> Size {
+// Reads the file that argument i names, as far as it fits. Of one that cannot be read, such as a folder, the reason is told.
+pub fn bytes(
+    rt: &(impl Env + Files + Eprint + Alloc),
+    i: usize,
+    out: &mut [u8],
+) -> io::Result<Size> {
     let mut size = absent();
     if i == 0 {
-        return size;
+        return Ok(size);
     }
-    let mut name = io::buffer();
-    let n = os::arg(i, &mut name);
-    let fd = os::open_read(&name[..n]);
     size.given = true;
-    if fd < 0 {
-        os::fail(&name[..n]);
-        size.failed = true;
-        return size;
+    let mut text = [0u8; args::ROOM];
+    let n = args::arg(rt, i, &mut text);
+    let name = String::from_utf8_lossy(rt.alloc(), &text[..n])?;
+    match read(rt, name.as_str(), &mut *out) {
+        Ok(n) => size.bytes = n,
+        Err(why) => {
+            size.failed = true;
+            text::fail(rt, name.as_str(), &why)?;
+        }
     }
-    size.bytes = io::read_full(fd, &mut *out);
-    size.failed = cannot_read(fd, size.bytes);
-    if size.failed {
-        os::fail(&name[..n]);
-    }
-    libc::close(fd);
-    size
+    Ok(size)
 }
 
-// Nothing read is an empty file, or one that cannot be read, such as a folder. It is read once more to tell.
-fn cannot_read(fd: i32, got: usize) -> bool {
-    let mut one = [0u8; 1];
-    (got == 0) & (libc::read(fd, &mut one) < 0)
+fn read(rt: &impl Files, name: &str, out: &mut [u8]) -> io::Result<usize> {
+    let mut file = fs::open(rt, name)?;
+    text::read_full(&mut file, &mut *out)
 }
 
 // Reads a file's whole words, as far as they fit. Its bytes are counted up to what a buffer holds, which is more.
-pub fn words(i: usize, out: &mut [u64]) -> Size {
-    let mut input = io::large_buffer();
-    let mut size = bytes(i, &mut input);
+pub fn words(
+    rt: &(impl Env + Files + Eprint + Alloc),
+    i: usize,
+    out: &mut [u64],
+) -> io::Result<Size> {
+    let mut input = [0u8; LARGE];
+    let mut size = bytes(rt, i, &mut input)?;
     size.words = gather(&input, size.bytes / WORD, &mut *out);
-    size
+    Ok(size)
 }
 
 // Puts the first n words of the bytes into `out`, as far as there are so many and room for them; answers how many.
@@ -110,18 +120,19 @@ fn gather(bytes: &[u8], n: usize, out: &mut [u64]) -> usize {
 }
 
 // What a part of the dump begins with.
-pub fn heading(name: &[u8], size: Size, most: usize) {
-    say(b"\n");
-    say(name);
+pub fn heading(out: &mut impl Write, name: &[u8], size: Size, most: usize) -> io::Result<()> {
+    say(&mut *out, b"\n")?;
+    say(&mut *out, name)?;
     if !size.given {
-        say(b": not given\n");
+        say(&mut *out, b": not given\n")
     } else if most < size.bytes {
         one(
+            &mut *out,
             b": more than # bytes, which are the most; those are shown\n",
             most as u64,
-        );
+        )
     } else {
-        one(b": # bytes\n", size.bytes as u64);
+        one(&mut *out, b": # bytes\n", size.bytes as u64)
     }
 }
 
@@ -134,19 +145,22 @@ pub fn lent(size: Size, words: usize) -> usize {
 }
 
 // Tells what stands behind the last whole row, or slot.
-pub fn rest_told(words: &[u64], from: usize, size: Size) {
+pub fn rest_told(out: &mut impl Write, words: &[u64], from: usize, size: Size) -> io::Result<()> {
     if from < words.len() {
         text::listed(
+            &mut *out,
             b"  words behind the last whole one, in hex:",
             &words[from..],
-        );
+        )?;
     }
     if size.bytes % WORD != 0 {
         one(
+            &mut *out,
             b"  bytes behind the last whole word: #\n",
             (size.bytes % WORD) as u64,
-        );
+        )?;
     }
+    Ok(())
 }
 
 // Copies as many words as both have.

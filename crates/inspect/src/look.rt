@@ -5,78 +5,101 @@ use crate::files;
 use commands::Features;
 use events::Checked;
 use rows::{Row, kinds, marks};
+use std::io;
+use std::io::Write;
 use text::{one, say, two};
 use words::Found;
 
 // `good`: nothing is refused. `raised`: a run raises an error.
-pub fn told(kept: &[u64], events: &[u64], f: Features, good: bool, raised: bool) {
-    say(b"\nWhat is worth a look\n");
+pub fn told(
+    out: &mut impl Write,
+    kept: &[u64],
+    events: &[u64],
+    f: Features,
+    good: bool,
+    raised: bool,
+) -> io::Result<()> {
+    say(&mut *out, b"\nWhat is worth a look\n")?;
     if !good {
-        say(b"  what is told as refused above\n");
+        say(&mut *out, b"  what is told as refused above\n")?;
     }
     if raised {
-        say(b"  an illegal command waits, for which a run raises an error\n");
+        say(
+            &mut *out,
+            b"  an illegal command waits, for which a run raises an error\n",
+        )?;
     }
-    let any = control_told(kept) | doubled(kept) | marked(kept, f) | dropped(events);
+    let any = control_told(&mut *out, kept)?
+        | doubled(&mut *out, kept)?
+        | marked(&mut *out, kept, f)?
+        | dropped(&mut *out, events)?;
     if good & !raised & !any {
-        say(b"  nothing\n");
+        say(&mut *out, b"  nothing\n")?;
     }
+    Ok(())
 }
 
 // The control word, if it is one.
-fn control_told(kept: &[u64]) -> bool {
+fn control_told(out: &mut impl Write, kept: &[u64]) -> io::Result<bool> {
     let w = files::first(kept);
     if (kept.len() == 0) | !control::well_formed(w) {
-        return false;
+        return Ok(false);
     }
     let active = control::active(w);
     let pending = control::pending_of(w) == 1;
     if active {
-        say(b"  an error is active: until the guest acknowledges it a run does nothing\n");
+        say(
+            &mut *out,
+            b"  an error is active: until the guest acknowledges it a run does nothing\n",
+        )?;
     }
     if pending {
-        say(b"  an interrupt is pending: it is to be raised, then cleared\n");
+        say(
+            &mut *out,
+            b"  an interrupt is pending: it is to be raised, then cleared\n",
+        )?;
     }
-    active | pending | full(w)
+    Ok(active | pending | full(&mut *out, w)?)
 }
 
-fn full(w: u64) -> bool {
+fn full(out: &mut impl Write, w: u64) -> io::Result<bool> {
     let n = control::log2size_of(w);
     let waiting = indexes::distance(n, control::rd_of(w), control::wr_of(w));
     if waiting != words::power(n) {
-        return false;
+        return Ok(false);
     }
-    say(b"  the queue is full\n");
-    true
+    say(&mut *out, b"  the queue is full\n")?;
+    Ok(true)
 }
 
 // Rows that could answer the same access as a lower one. Rows that are ill formed answer nothing, since the unit refuses the whole
 // memory.
-fn doubled(kept: &[u64]) -> bool {
+fn doubled(out: &mut impl Write, kept: &[u64]) -> io::Result<bool> {
     let n = files::fours(kept);
     let mut any = false;
     for j in 0..n {
-        any = any | doubled_row(kept, j);
+        any = any | doubled_row(&mut *out, kept, j)?;
     }
-    any
+    Ok(any)
 }
 
-fn doubled_row(kept: &[u64], j: usize) -> bool
+fn doubled_row(out: &mut impl Write, kept: &[u64], j: usize) -> io::Result<bool>
     requires { 4 * j + 5 ≤ length kept.now }
 {
     let row = image::row_at(kept, j);
     if !(rows::may_answer(row) & row_forms::well_formed(row)) {
-        return false;
+        return Ok(false);
     }
     if let Found::At(i) = shadow_of(kept, j, row) {
         two(
+            &mut *out,
             b"  row # never answers: row # answers all that it could\n",
             j as u64,
             i as u64,
-        );
-        return true;
+        )?;
+        return Ok(true);
     }
-    doubles_told(kept, j, row)
+    doubles_told(&mut *out, kept, j, row)
 }
 
 // The lowest row below j that answers whatever the row there could.
@@ -91,32 +114,47 @@ fn shadow_of(kept: &[u64], j: usize, row: Row) -> Found
     Found::Nothing
 }
 
-fn doubles_told(kept: &[u64], j: usize, row: Row) -> bool
+fn doubles_told(out: &mut impl Write, kept: &[u64], j: usize, row: Row) -> io::Result<bool>
     requires { 4 * j + 5 ≤ length kept.now }
 {
     let mut any = false;
     for i in 0..j {
-        any = double_told(any, i as u64, image::row_at(kept, i), j as u64, row);
+        any = double_told(
+            &mut *out,
+            any,
+            i as u64,
+            image::row_at(kept, i),
+            j as u64,
+            row,
+        )?;
     }
     if any {
-        say(b"\n");
+        say(&mut *out, b"\n")?;
     }
-    any
+    Ok(any)
 }
 
 // Tells a lower row behind those told before, and answers whether there is one so far.
-fn double_told(any: bool, i: u64, low: Row, j: u64, row: Row) -> bool {
+fn double_told(
+    out: &mut impl Write,
+    any: bool,
+    i: u64,
+    low: Row,
+    j: u64,
+    row: Row,
+) -> io::Result<bool> {
     if !collides(low, row) {
-        return any;
+        return Ok(any);
     }
     if !any {
         one(
+            &mut *out,
             b"  row # could answer accesses that these lower rows answer first:",
             j,
-        );
+        )?;
     }
-    one(b" #", i);
-    true
+    one(&mut *out, b" #", i)?;
+    Ok(true)
 }
 
 fn collides(low: Row, high: Row) -> bool {
@@ -138,39 +176,43 @@ fn shadows(low: Row, high: Row) -> bool {
 }
 
 // The hypervisor's rows, if no command for them is legal.
-fn marked(kept: &[u64], f: Features) -> bool {
+fn marked(out: &mut impl Write, kept: &[u64], f: Features) -> io::Result<bool> {
     let n = files::fours(kept);
     let mut any = false;
     if f.hyp & f.s1p {
-        return false;
+        return Ok(false);
     }
     for i in 0..n {
-        any = any | marked_told(i as u64, image::row_at(kept, i));
+        any = any | marked_told(&mut *out, i as u64, image::row_at(kept, i))?;
     }
-    any
+    Ok(any)
 }
 
-fn marked_told(i: u64, row: Row) -> bool {
+fn marked_told(out: &mut impl Write, i: u64, row: Row) -> io::Result<bool> {
     let p = rows::parts_of(row);
     if (row.w0 == 0) | (p.kind != kinds::STAGE1) | (p.mark == marks::UNMARKED) {
-        return false;
+        return Ok(false);
     }
     two(
+        &mut *out,
         b"  row # is the hypervisor's ({|EL2|EL2-E2H|both}), and without Hyp and S1P no command removes it\n",
         i,
         p.mark,
-    );
-    true
+    )?;
+    Ok(true)
 }
 
 // Of a recorder that is accepted.
-fn dropped(events: &[u64]) -> bool {
+fn dropped(out: &mut impl Write, events: &[u64]) -> io::Result<bool> {
     if let Checked::Refused(_) = events::check(events) {
-        return false;
+        return Ok(false);
     }
     if !events::outstanding(files::first(events)) {
-        return false;
+        return Ok(false);
     }
-    say(b"  records were dropped, and nobody has acknowledged it\n");
-    true
+    say(
+        &mut *out,
+        b"  records were dropped, and nobody has acknowledged it\n",
+    )?;
+    Ok(true)
 }

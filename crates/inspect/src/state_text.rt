@@ -3,6 +3,8 @@ use crate::files;
 use crate::files::Size;
 use control::Fields;
 use image::{Checked, Refusal};
+use std::io;
+use std::io::Write;
 use text::{bit, one, say, three, two};
 
 // The bits of the control word that are always 0.
@@ -11,120 +13,149 @@ const ZERO_HIGH: u64 = 63;
 const ZERO_LOW: u64 = 56;
 
 // Answers whether the unit takes it.
-pub fn told(kept: &[u64], size: Size) -> bool {
-    files::heading(b"Kept memory", size, files::WORD * files::KEPT);
-    let good = verdict(kept, size);
+pub fn told(out: &mut impl Write, kept: &[u64], size: Size) -> io::Result<bool> {
+    files::heading(&mut *out, b"Kept memory", size, files::WORD * files::KEPT)?;
+    let good = verdict(&mut *out, kept, size)?;
     if kept.len() == 0 {
-        return good;
+        return Ok(good);
     }
-    files::rest_told(kept, files::behind_fours(kept), size);
-    control_told(kept[0]);
+    files::rest_told(&mut *out, kept, files::behind_fours(kept), size)?;
+    control_told(&mut *out, kept[0])?;
     let n = files::fours(kept);
     two(
+        &mut *out,
         b"  rows in use: # of #\n",
         image::used_rows(kept, n) as u64,
         n as u64,
-    );
-    good
+    )?;
+    Ok(good)
 }
 
-fn verdict(kept: &[u64], size: Size) -> bool {
+fn verdict(out: &mut impl Write, kept: &[u64], size: Size) -> io::Result<bool> {
     if !files::is_whole(size, kept.len()) {
-        length_told();
-        return false;
+        length_told(&mut *out)?;
+        return Ok(false);
     }
     match image::check(kept) {
         Checked::Accepted(_) => {
-            say(b"  accepted by the unit\n");
-            true
+            say(&mut *out, b"  accepted by the unit\n")?;
+            Ok(true)
         }
         Checked::Refused(why) => {
-            refused(why);
-            false
+            refused(&mut *out, why)?;
+            Ok(false)
         }
     }
 }
 
-fn refused(why: Refusal) {
+fn refused(out: &mut impl Write, why: Refusal) -> io::Result<()> {
     match why {
-        Refusal::BadLength => length_told(),
-        Refusal::BadControl => say(b"  refused 2: the control word is ill formed\n"),
+        Refusal::BadLength => length_told(&mut *out),
+        Refusal::BadControl => say(&mut *out, b"  refused 2: the control word is ill formed\n"),
         Refusal::BadRow(i) => one(
+            &mut *out,
             b"  refused 3: row # is ill formed, and none below it\n",
             i as u64,
         ),
     }
 }
 
-fn length_told() {
+fn length_told(out: &mut impl Write) -> io::Result<()> {
     one(
+        &mut *out,
         b"  refused 1: the length is not 8 times 1 + 4 N bytes with N from 1 to #\n",
         image::MAX_ROWS as u64,
-    );
+    )
 }
 
-fn control_told(w: u64) {
+fn control_told(out: &mut impl Write, w: u64) -> io::Result<()> {
     let c = control::fields_of(w);
-    one(b"  control word 0x$\n", w);
+    one(&mut *out, b"  control word 0x$\n", w)?;
     if control::well_formed(w) {
-        indexes_told(c);
+        indexes_told(&mut *out, c)?;
     } else {
-        two(b"  RD 0x$\n  WR 0x$\n", c.rd, c.wr);
-        one(b"  LOG2SIZE #\n", c.log2size);
+        two(&mut *out, b"  RD 0x$\n  WR 0x$\n", c.rd, c.wr)?;
+        one(&mut *out, b"  LOG2SIZE #\n", c.log2size)?;
     }
-    one(b"  ERR #\n", c.err);
+    one(&mut *out, b"  ERR #\n", c.err)?;
     three(
+        &mut *out,
         b"  error active: {no|yes} (GERROR #, GERRORN #)\n",
         bit(control::active(w)),
         c.gerror,
         c.gerrorn,
-    );
+    )?;
     two(
+        &mut *out,
         b"  queue enabled: {no|yes}\n  interrupt pending: {no|yes}\n",
         c.cmdqen,
         c.pending,
-    );
+    )?;
     if !control::well_formed(w) {
-        faults(c, w);
+        faults(&mut *out, c, w)?;
     }
+    Ok(())
 }
 
 // The indexes of a well-formed word.
-fn indexes_told(c: Fields) {
+fn indexes_told(out: &mut impl Write, c: Fields) -> io::Result<()> {
     let n = c.log2size % 32;
-    two(b"  RD 0x$, slot #\n", c.rd, indexes::slot(n, c.rd));
-    two(b"  WR 0x$, slot #\n", c.wr, indexes::slot(n, c.wr));
-    two(b"  LOG2SIZE #, slots: #\n", n, words::power(n));
+    two(
+        &mut *out,
+        b"  RD 0x$, slot #\n",
+        c.rd,
+        indexes::slot(n, c.rd),
+    )?;
+    two(
+        &mut *out,
+        b"  WR 0x$, slot #\n",
+        c.wr,
+        indexes::slot(n, c.wr),
+    )?;
+    two(&mut *out, b"  LOG2SIZE #, slots: #\n", n, words::power(n))?;
     one(
+        &mut *out,
         b"  commands that wait: #\n",
         indexes::distance(n, c.rd, c.wr),
-    );
+    )
 }
 
 // The rules that the control word breaks.
-fn faults(c: Fields, w: u64) {
+fn faults(out: &mut impl Write, c: Fields, w: u64) -> io::Result<()> {
     let n = c.log2size % 32;
     let turn = words::power(n + 1);
     let zero = words::part(w, ZERO_HIGH, ZERO_LOW);
     if zero != 0 {
-        one(b"  wrong: bits 63 to 56 are 0x$ and not 0\n", zero);
+        one(
+            &mut *out,
+            b"  wrong: bits 63 to 56 are 0x$ and not 0\n",
+            zero,
+        )?;
     }
     if control::MAX_LOG2 < n {
-        one(b"  wrong: LOG2SIZE is above #\n", control::MAX_LOG2);
+        one(
+            &mut *out,
+            b"  wrong: LOG2SIZE is above #\n",
+            control::MAX_LOG2,
+        )?;
     }
     if turn <= c.rd {
-        one(b"  wrong: RD is not below 0x$\n", turn);
+        one(&mut *out, b"  wrong: RD is not below 0x$\n", turn)?;
     }
     if turn <= c.wr {
-        one(b"  wrong: WR is not below 0x$\n", turn);
+        one(&mut *out, b"  wrong: WR is not below 0x$\n", turn)?;
     }
     if words::power(n) < indexes::distance(n, c.rd, c.wr) {
-        say(b"  wrong: WR is further from RD than the queue has slots\n");
+        say(
+            &mut *out,
+            b"  wrong: WR is further from RD than the queue has slots\n",
+        )?;
     }
     if 1 < c.err {
-        say(b"  wrong: ERR is neither 0 nor 1\n");
+        say(&mut *out, b"  wrong: ERR is neither 0 nor 1\n")?;
     }
     if control::active(w) & (c.err != 1) {
-        say(b"  wrong: an error is active and ERR is not 1\n");
+        say(&mut *out, b"  wrong: an error is active and ERR is not 1\n")?;
     }
+    Ok(())
 }

@@ -7,6 +7,8 @@ use crate::made::made;
 use crate::scene::bit;
 use crate::whole::Whole;
 use crate::{list, made};
+use std::io;
+use std::io::Write;
 use text::told;
 
 // An allowance that no call uses up.
@@ -33,12 +35,12 @@ struct Counts {
     same: u64,
 }
 
-pub fn every(whole: Whole, queue: &[u8; BYTES]) {
+pub fn every(out: &mut impl Write, whole: Whole, queue: &[u8; BYTES]) -> io::Result<()> {
     let mut counts = Counts { again: 0, same: 0 };
     for k in 0..MOST {
         counts = another(whole, k, queue, counts);
     }
-    tell(whole, counts);
+    tell(&mut *out, whole, counts)
 }
 
 // One night more, if it has a store that power goes before.
@@ -56,9 +58,10 @@ fn another(whole: Whole, k: u64, queue: &[u8; BYTES], counts: Counts) -> Counts 
     }
 }
 
-fn tell(whole: Whole, counts: Counts) {
+fn tell(out: &mut impl Write, whole: Whole, counts: Counts) -> io::Result<()> {
     let stores = whole.stores;
     told(
+        &mut *out,
         b"calls #, stores #\nPlayed again # times, power going after each number of stores: # times in a call that was then made again, else before a call's only store\n{Not all|All} nights ended in the same words, with the same answers but for a run's counts\n",
         [
             whole.count as u64,
@@ -70,7 +73,7 @@ fn tell(whole: Whole, counts: Counts) {
             0,
             0,
         ],
-    );
+    )
 }
 
 fn play(whole: Whole, k: u64, queue: &[u8; BYTES]) -> Night {

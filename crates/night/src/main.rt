@@ -12,32 +12,44 @@ mod start;
 mod whole;
 
 use list::Memory;
+use std::io;
+use std::io::{BufReader, BufWriter, Read, Write};
 
-fn main() {
-    start::start();
-    let uncut = nights::uncut();
-    nights::cut(0, &uncut);
-    nights::cut(1, &uncut);
-    nights::cut(2, &uncut);
-    nights::cut(3, &uncut);
-    nights::rd_first(0, &uncut);
-    nights::rd_first(1, &uncut);
-    nights::rd_first(2, &uncut);
-    night();
+fn main(rt: HostRuntime) -> io::Result<()> {
+    let mut input = BufReader::new(rt.alloc(), rt.reader())?;
+    let mut out = BufWriter::new(rt.alloc(), io::writer(&rt))?;
+    start::start(&mut out)?;
+    let uncut = nights::uncut(&mut out)?;
+    nights::cut(&mut out, 0, &uncut)?;
+    nights::cut(&mut out, 1, &uncut)?;
+    nights::cut(&mut out, 2, &uncut)?;
+    nights::cut(&mut out, 3, &uncut)?;
+    nights::rd_first(&mut out, 0, &uncut)?;
+    nights::rd_first(&mut out, 1, &uncut)?;
+    nights::rd_first(&mut out, 2, &uncut)?;
+    night(&mut input, &mut out)?;
+    out.flush()
 }
 
-fn night() {
+fn night(input: &mut impl Read, out: &mut impl Write) -> io::Result<()> {
     let mut kept = [0u64; list::KEPT];
     let mut table = [0u64; list::TABLE];
     let mut ring = [0u64; list::RING];
     let mut queue = [0u8; list::BYTES];
-    text::say(b"\nA whole night\n");
-    let first = whole::begin(&mut kept, &mut table, &mut ring, &mut queue);
+    text::say(&mut *out, b"\nA whole night\n")?;
+    let first = whole::begin(
+        &mut *input,
+        &mut *out,
+        &mut kept,
+        &mut table,
+        &mut ring,
+        &mut queue,
+    )?;
     let memory = Memory {
         kept: kept,
         table: table,
         ring: ring,
     };
-    let whole = whole::play(first, memory, &queue);
-    cuts::every(whole, &queue);
+    let whole = whole::play(&mut *input, &mut *out, first, memory, &queue)?;
+    cuts::every(&mut *out, whole, &queue)
 }

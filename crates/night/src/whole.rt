@@ -5,6 +5,8 @@ ghost use Rattle.std.specs.Prelude.{◌<◌};
 use crate::list::{BYTES, CALLS, KEPT, List, Memory, RING, TABLE};
 use crate::made::made;
 use crate::{list, made};
+use std::io;
+use std::io::{Read, Write};
 use text::told;
 
 // The calls with what came of them, how many there are, the memories before and after, and the stores of all.
@@ -19,49 +21,66 @@ pub struct Whole {
 
 // Reads what the night begins with; answers the first call's letter.
 pub fn begin(
+    input: &mut impl Read,
+    out: &mut impl Write,
     kept: &mut [u64; KEPT],
     table: &mut [u64; TABLE],
     ring: &mut [u64; RING],
     queue: &mut [u8; BYTES],
-) -> u8 {
+) -> io::Result<u8> {
     let mut words = 0;
     for _ in 0..u64::MAX {
-        let verb = text::next();
+        let verb = text::next(&mut *input)?;
         match verb {
-            b'k' => words = filled(&mut *kept, 0),
-            b'+' => words = filled(&mut *kept, words),
+            b'k' => words = filled(&mut *input, &mut *out, &mut *kept, 0)?,
+            b'+' => words = filled(&mut *input, &mut *out, &mut *kept, words)?,
             b's' => {
-                filled(&mut *table, 0);
+                filled(&mut *input, &mut *out, &mut *table, 0)?;
             }
             b'v' => {
-                filled(&mut *ring, 0);
+                filled(&mut *input, &mut *out, &mut *ring, 0)?;
             }
-            b'q' => commands(&mut *queue),
-            _ => return verb,
+            b'q' => commands(&mut *input, &mut *out, &mut *queue)?,
+            _ => return Ok(verb),
         }
     }
-    0
+    Ok(0)
 }
 
 // Puts a line's words behind the first n, and answers how many there are then.
-fn filled(to: &mut [u64], n: usize) -> usize {
-    text::say(b"  ");
-    text::label(true);
-    let m = text::words(&mut *to, n);
-    text::say(b"at the start\n");
-    m
+fn filled(
+    input: &mut impl Read,
+    out: &mut impl Write,
+    to: &mut [u64],
+    n: usize,
+) -> io::Result<usize> {
+    text::say(&mut *out, b"  ")?;
+    text::label(&mut *input, &mut *out, true)?;
+    let m = text::words(&mut *input, &mut *to, n)?;
+    text::say(&mut *out, b"at the start\n")?;
+    Ok(m)
 }
 
-fn commands(queue: &mut [u8; BYTES]) {
-    text::say(b"  ");
-    text::label(true);
-    let w = text::eight();
+fn commands(
+    input: &mut impl Read,
+    out: &mut impl Write,
+    queue: &mut [u8; BYTES],
+) -> io::Result<()> {
+    text::say(&mut *out, b"  ")?;
+    text::label(&mut *input, &mut *out, true)?;
+    let w = text::eight(&mut *input)?;
     text::spread(w, &mut *queue);
-    text::say(b"at the start\n");
+    text::say(&mut *out, b"at the start\n")
 }
 
 // The calls without a cut, each as it is read.
-pub fn play(first: u8, start: Memory, queue: &[u8; BYTES]) -> Whole {
+pub fn play(
+    input: &mut impl Read,
+    out: &mut impl Write,
+    first: u8,
+    start: Memory,
+    queue: &[u8; BYTES],
+) -> io::Result<Whole> {
     let mut verb = first;
     let mut whole = Whole {
         list: list::none(),
@@ -72,57 +91,68 @@ pub fn play(first: u8, start: Memory, queue: &[u8; BYTES]) -> Whole {
     };
     for i in 0..CALLS {
         if verb == 0 {
-            return whole;
+            return Ok(whole);
         }
-        whole = step(whole, i, verb, queue);
-        verb = text::next();
+        whole = step(&mut *input, &mut *out, whole, i, verb, queue)?;
+        verb = text::next(&mut *input)?;
     }
-    whole
+    Ok(whole)
 }
 
-fn step(whole: Whole, i: usize, verb: u8, queue: &[u8; BYTES]) -> Whole
+fn step(
+    input: &mut impl Read,
+    out: &mut impl Write,
+    whole: Whole,
+    i: usize,
+    verb: u8,
+    queue: &[u8; BYTES],
+) -> io::Result<Whole>
     requires { i < 24 }
 {
     let before = whole.memory;
     let calls = whole.list;
     let start = whole.start;
-    text::say(b"  ");
-    text::label(true);
-    let w = text::eight();
+    text::say(&mut *out, b"  ")?;
+    text::label(&mut *input, &mut *out, true)?;
+    let w = text::eight(&mut *input)?;
     let m = made(verb, w, before, queue);
     let after = m.memory;
     let answer = m.answer;
     let stores = made::stores(verb, m.code, answer);
-    shown(verb, m.code, answer);
-    told(b", stores #\n", [stores, 0, 0, 0, 0, 0, 0, 0]);
-    Whole {
+    shown(&mut *out, verb, m.code, answer)?;
+    told(&mut *out, b", stores #\n", [stores, 0, 0, 0, 0, 0, 0, 0])?;
+    Ok(Whole {
         list: list::with(calls, i, verb, w, m),
         count: i + 1,
         start: start,
         memory: after,
         stores: std::num::wrapping_add_u64(whole.stores, stores),
-    }
+    })
 }
 
 // What a call tells but for its counts.
-fn shown(verb: u8, code: u64, w: [u64; 8]) {
+fn shown(out: &mut impl Write, verb: u8, code: u64, w: [u64; 8]) -> io::Result<()> {
     if code != 0 {
-        return told(b"refused #", [code, 0, 0, 0, 0, 0, 0, 0]);
+        return told(&mut *out, b"refused #", [code, 0, 0, 0, 0, 0, 0, 0]);
     }
     match verb {
-        b'r' => told(b"{Off|Held|Empty|Raised|Cut}", w),
-        b'f' | b'g' => told(b"{Filled|Cut}", w),
-        b'w' => told(b"{Stored|Dropped|Cut}", w),
-        b'o' => told(b"record 0x$ 0x$ 0x$ 0x$", w),
-        b't' => outcome(w),
-        _ => text::say(b"done"),
+        b'r' => told(&mut *out, b"{Off|Held|Empty|Raised|Cut}", w),
+        b'f' | b'g' => told(&mut *out, b"{Filled|Cut}", w),
+        b'w' => told(&mut *out, b"{Stored|Dropped|Cut}", w),
+        b'o' => told(&mut *out, b"record 0x$ 0x$ 0x$ 0x$", w),
+        b't' => outcome(&mut *out, w),
+        _ => text::say(&mut *out, b"done"),
     }
 }
 
-fn outcome(w: [u64; 8]) {
+fn outcome(out: &mut impl Write, w: [u64; 8]) -> io::Result<()> {
     if w[0] == 0 {
-        told(b"{address 0x}$", w);
+        told(&mut *out, b"{address 0x}$", w)
     } else {
-        told(b"{|abort|miss STE|miss CD|miss stage 1|miss stage 2}", w);
+        told(
+            &mut *out,
+            b"{|abort|miss STE|miss CD|miss stage 1|miss stage 2}",
+            w,
+        )
     }
 }

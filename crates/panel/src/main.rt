@@ -4,72 +4,85 @@
 
 mod scene;
 
+use std::io;
+use std::io::{BufWriter, Write};
 use text::{say, told};
 
 // An allowance that a record doesn't use up.
 const ENOUGH: u64 = 8;
 
-fn main() {
-    say(b"The ring before: two slots, both read out\n  left in slot 0: ");
-    event(scene::old_fire());
-    say(b"  left in slot 1: ");
-    event(scene::old_fault());
-    say(b"The record to write: ");
-    event(scene::fault());
-    cut(0);
-    cut(1);
-    cut(2);
-    cut(3);
-    cut(4);
-    cut(5);
+fn main(rt: HostRuntime) -> io::Result<()> {
+    let mut out = BufWriter::new(rt.alloc(), io::writer(&rt))?;
+    say(
+        &mut out,
+        b"The ring before: two slots, both read out\n  left in slot 0: ",
+    )?;
+    event(&mut out, scene::old_fire())?;
+    say(&mut out, b"  left in slot 1: ")?;
+    event(&mut out, scene::old_fault())?;
+    say(&mut out, b"The record to write: ")?;
+    event(&mut out, scene::fault())?;
+    cut(&mut out, 0)?;
+    cut(&mut out, 1)?;
+    cut(&mut out, 2)?;
+    cut(&mut out, 3)?;
+    cut(&mut out, 4)?;
+    cut(&mut out, 5)?;
+    out.flush()
 }
 
-fn event(w: [u64; 8]) {
-    told(b"{|fire|a warm freezer}, aisle #, # degrees, minute #\n", w);
+fn event(out: &mut impl Write, w: [u64; 8]) -> io::Result<()> {
+    told(
+        &mut *out,
+        b"{|fire|a warm freezer}, aisle #, # degrees, minute #\n",
+        w,
+    )
 }
 
 // Whether it was cut.
-fn write(ring: &mut [u64; 9], allowance: u64) -> bool {
+fn write(out: &mut impl Write, ring: &mut [u64; 9], allowance: u64) -> io::Result<bool> {
     let mut answer = [0u64; 8];
     let code = host::tahvenno_event_write(&mut *ring, &scene::bytes(), allowance, &mut answer);
     if code == 0 {
-        told(b"{Stored|Dropped|Cut}, stores #\n", answer);
+        told(&mut *out, b"{Stored|Dropped|Cut}, stores #\n", answer)?;
     } else {
-        say(b"refused\n");
+        say(&mut *out, b"refused\n")?;
     }
-    answer[0] == 2
+    Ok(answer[0] == 2)
 }
 
 // Reads from a copy, so that the ring stays as it is.
-fn panel(ring: [u64; 9]) {
+fn panel(out: &mut impl Write, ring: [u64; 9]) -> io::Result<()> {
     let mut copy = ring;
-    read(&mut copy);
+    read(&mut *out, &mut copy)
 }
 
-fn read(ring: &mut [u64; 9]) {
+fn read(out: &mut impl Write, ring: &mut [u64; 9]) -> io::Result<()> {
     let mut answer = [0u64; 8];
     if host::tahvenno_event_read(&mut *ring, &mut answer) == 0 {
-        event(answer);
+        event(&mut *out, answer)
     } else {
-        say(b"nothing waits\n");
+        say(&mut *out, b"nothing waits\n")
     }
 }
 
-fn cut(allowance: u64) {
+fn cut(out: &mut impl Write, allowance: u64) -> io::Result<()> {
     let mut ring = scene::ring();
     told(
+        &mut *out,
         b"\nPower for # of the five stores\n  the unit: ",
         [allowance, 0, 0, 0, 0, 0, 0, 0],
-    );
-    let again = write(&mut ring, allowance);
-    say(b"  the panel: ");
-    panel(ring);
-    say(b"  the index first, the panel would read: ");
-    panel(scene::index_first(allowance));
+    )?;
+    let again = write(&mut *out, &mut ring, allowance)?;
+    say(&mut *out, b"  the panel: ")?;
+    panel(&mut *out, ring)?;
+    say(&mut *out, b"  the index first, the panel would read: ")?;
+    panel(&mut *out, scene::index_first(allowance))?;
     if again {
-        say(b"  power is back, the write is made again: ");
-        write(&mut ring, ENOUGH);
-        say(b"  the panel: ");
-        panel(ring);
+        say(&mut *out, b"  power is back, the write is made again: ")?;
+        write(&mut *out, &mut ring, ENOUGH)?;
+        say(&mut *out, b"  the panel: ")?;
+        panel(&mut *out, ring)?;
     }
+    Ok(())
 }

@@ -4,44 +4,46 @@
 
 use image::Refusal;
 use image_state::{State, StateAnswer};
-use libc::{STDIN_FILENO, STDOUT_FILENO};
+use std::io;
+use std::io::{BufWriter, Write};
 
-fn main() {
-    let mut input = io::large_buffer();
-    let n = io::read_full(STDIN_FILENO, &mut input);
+fn main(rt: HostRuntime) -> io::Result<()> {
+    let mut out = BufWriter::new(rt.alloc(), io::writer(&rt))?;
+    let mut input = [0u8; 65536];
+    let n = text::read_full(&mut rt.reader(), &mut input)?;
     match image_state::state_in(&input[..n]) {
-        StateAnswer::Refused(why) => refused(why),
-        StateAnswer::Is(s) => told(s),
+        StateAnswer::Refused(why) => refused(&mut out, why)?,
+        StateAnswer::Is(s) => told(&mut out, s)?,
     }
+    out.flush()
 }
 
-fn line(key: &[u8], n: u64) {
-    io::write_all(STDOUT_FILENO, key);
-    io::print_decimal(STDOUT_FILENO, n);
-    io::write_all(STDOUT_FILENO, b"\n");
+fn line(out: &mut impl Write, key: &[u8], n: u64) -> io::Result<()> {
+    out.write_all(key)?;
+    writeln!(out, "{n}")
 }
 
-fn flag(key: &[u8], on: bool) {
+fn flag(out: &mut impl Write, key: &[u8], on: bool) -> io::Result<()> {
     if on {
-        line(key, 1);
+        line(&mut *out, key, 1)
     } else {
-        line(key, 0);
+        line(&mut *out, key, 0)
     }
 }
 
-fn refused(why: Refusal) {
+fn refused(out: &mut impl Write, why: Refusal) -> io::Result<()> {
     match why {
-        Refusal::BadLength => line(b"refused=", 1),
-        Refusal::BadControl => line(b"refused=", 2),
-        Refusal::BadRow(_) => line(b"refused=", 3),
+        Refusal::BadLength => line(&mut *out, b"refused=", 1),
+        Refusal::BadControl => line(&mut *out, b"refused=", 2),
+        Refusal::BadRow(_) => line(&mut *out, b"refused=", 3),
     }
 }
 
-fn told(s: State) {
-    line(b"cons=", s.rd);
-    line(b"prod=", s.wr);
-    line(b"err=", s.err);
-    flag(b"active=", s.active);
-    flag(b"enabled=", s.enabled);
-    line(b"used=", s.used);
+fn told(out: &mut impl Write, s: State) -> io::Result<()> {
+    line(&mut *out, b"cons=", s.rd)?;
+    line(&mut *out, b"prod=", s.wr)?;
+    line(&mut *out, b"err=", s.err)?;
+    flag(&mut *out, b"active=", s.active)?;
+    flag(&mut *out, b"enabled=", s.enabled)?;
+    line(&mut *out, b"used=", s.used)
 }

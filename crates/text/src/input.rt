@@ -1,32 +1,34 @@
 // Lines of standard input: a letter, a space, what the line is about, a colon, and words in hex, each behind a space. They are
 // read a byte at a time, so that there may be as many as one likes.
-ghost use Rattle.std.specs.Prelude.{◌<◌};
+ghost use Rattle.std.specs.Prelude.{◌<◌, ◌≤◌, IfOk, length};
 
 use crate::output::say;
-use libc::STDIN_FILENO;
+use std::io;
+use std::io::{Read, Write};
 
 // The next byte, or 0 where the input ends.
-pub fn next() -> u8 {
+pub fn next(input: &mut impl Read) -> io::Result<u8> {
     let mut b = [0u8; 1];
-    io::read_full(STDIN_FILENO, &mut b);
-    b[0]
+    input.read(&mut b)?;
+    Ok(b[0])
 }
 
 // Reads what the line is about, and says it if it is asked to.
-pub fn label(said: bool) {
-    next();
+pub fn label(input: &mut impl Read, out: &mut impl Write, said: bool) -> io::Result<()> {
+    next(&mut *input)?;
     for _ in 0..u64::MAX {
-        let b = next();
+        let b = next(&mut *input)?;
         if (b == b':') | (b == 0) {
             break;
         }
         if said {
-            say(&[b]);
+            say(&mut *out, &[b])?;
         }
     }
     if said {
-        say(b": ");
+        say(&mut *out, b": ")?;
     }
+    Ok(())
 }
 
 // What a hexadecimal digit stands for: a letter is nine more than its low four bits.
@@ -62,23 +64,23 @@ fn take(b: u8, out: &mut [u64], n: usize) -> usize {
 }
 
 // Puts the line's words at n and on, as far as there is room; answers where they end.
-pub fn words(out: &mut [u64], n: usize) -> usize {
+pub fn words(input: &mut impl Read, out: &mut [u64], n: usize) -> io::Result<usize> {
     let mut count = n;
     for _ in 0..u64::MAX {
-        let b = next();
+        let b = next(&mut *input)?;
         if (b == b'\n') | (b == 0) {
-            return count;
+            return Ok(count);
         }
         count = take(b, &mut *out, count);
     }
-    count
+    Ok(count)
 }
 
 // A line's words, if they are no more than eight.
-pub fn eight() -> [u64; 8] {
+pub fn eight(input: &mut impl Read) -> io::Result<[u64; 8]> {
     let mut w = [0u64; 8];
-    words(&mut w, 0);
-    w
+    words(&mut *input, &mut w, 0)?;
+    Ok(w)
 }
 
 // Byte i of those that spread makes.
@@ -101,4 +103,19 @@ pub fn spread(w: [u64; 8], bytes: &mut [u8]) {
         bytes[i] = byte_at(w, i);
         i += 1;
     }
+}
+
+// Reads until the bytes are full or the input ends; answers how many were read.
+pub fn read_full(input: &mut impl Read, to: &mut [u8]) -> io::Result<usize>
+    ensures { IfOk result (λ n. n ≤ length to.new) }
+{
+    let mut done = 0;
+    while done < to.len() {
+        let n = input.read(&mut to[done..])?;
+        if n == 0 {
+            break;
+        }
+        done += n;
+    }
+    Ok(done)
 }

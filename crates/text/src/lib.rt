@@ -4,5 +4,5 @@
 mod input;
 mod output;
 
-pub use input::{digit, eight, label, next, spread, words};
-pub use output::{bit, listed, one, say, three, told, two};
+pub use input::{digit, eight, label, next, read_full, spread, words};
+pub use output::{bit, fail, listed, one, say, three, told, two};

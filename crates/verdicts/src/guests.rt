@@ -4,6 +4,9 @@ ghost use Rattle.std.specs.Prelude.{◌+◌, ◌*◌, ◌<◌, ◌≤◌, length
 use crate::features::{ASID16, HYP, RIL, S1P, S2P, VMID16};
 use crate::show::{code, number, say};
 use commands::{Decoded, Features, Reason};
+use std::io::{Read, Write};
+use std::rt::Files;
+use std::{fs, io};
 
 // Commands read at a time, and how often: enough for the longest file.
 const CHUNKS: usize = 64;
@@ -17,57 +20,61 @@ const RANGES: usize = 1282;
 
 const COUNTS: usize = 1283;
 
-pub fn all() {
+pub fn all(rt: &(impl Files + Eprint + Alloc), out: &mut impl Write) -> io::Result<()> {
     let single = commands::features_of(S1P + ASID16);
     let stage1 = commands::features_of(S1P + ASID16 + RIL);
     let stage2 = commands::features_of(S2P + VMID16 + RIL);
     let host = commands::features_of(S1P + ASID16 + HYP + RIL);
-    say(b"linux-6.12-no-ril\n");
-    guest(b"linux-6.12-no-ril.bin", single);
-    say(b"linux-6.12\n");
-    guest(b"linux-6.12.bin", stage1);
-    say(b"linux-6.1-stage2\n");
-    guest(b"linux-6.1-stage2.bin", stage2);
-    say(b"linux-6.1-hyp\n");
-    guest(b"linux-6.1-hyp.bin", host);
+    say(&mut *out, b"linux-6.12-no-ril\n")?;
+    guest(rt, &mut *out, "linux-6.12-no-ril.bin", single)?;
+    say(&mut *out, b"linux-6.12\n")?;
+    guest(rt, &mut *out, "linux-6.12.bin", stage1)?;
+    say(&mut *out, b"linux-6.1-stage2\n")?;
+    guest(rt, &mut *out, "linux-6.1-stage2.bin", stage2)?;
+    say(&mut *out, b"linux-6.1-hyp\n")?;
+    guest(rt, &mut *out, "linux-6.1-hyp.bin", host)
 }
 
 // Legal commands are counted at their code, illegal ones by their reason, each 256 places on.
-fn guest(path: &[u8], f: Features) {
-    let fd = os::open_read(path);
-    if fd < 0 {
-        os::fail(path);
-        return;
-    }
+fn guest(
+    rt: &(impl Files + Eprint + Alloc),
+    out: &mut impl Write,
+    path: &str,
+    f: Features,
+) -> io::Result<()> {
     let mut counts = [0u64; COUNTS];
-    chunks(fd, f, &mut counts);
-    libc::close(fd);
-    told(&counts);
-    told_addresses(counts[ADDRESSES], counts[UPPER], counts[RANGES]);
+    match fs::open(rt, path) {
+        Ok(mut file) => chunks(&mut file, f, &mut counts)?,
+        Err(why) => return text::fail(rt, path, &why),
+    }
+    told(&mut *out, &counts)?;
+    told_addresses(&mut *out, counts[ADDRESSES], counts[UPPER], counts[RANGES])
 }
 
-fn told_addresses(named: u64, upper: u64, ranges: u64) {
-    say(b"  addresses: ");
-    number(named);
-    say(b", of the upper half ");
-    number(upper);
-    say(b", ranges ");
-    number(ranges);
-    say(b"\n");
+fn told_addresses(out: &mut impl Write, named: u64, upper: u64, ranges: u64) -> io::Result<()> {
+    say(&mut *out, b"  addresses: ")?;
+    number(&mut *out, named)?;
+    say(&mut *out, b", of the upper half ")?;
+    number(&mut *out, upper)?;
+    say(&mut *out, b", ranges ")?;
+    number(&mut *out, ranges)?;
+    say(&mut *out, b"\n")
 }
 
-fn chunks(fd: i32, f: Features, counts: &mut [u64; COUNTS]) {
+fn chunks(file: &mut impl Read, f: Features, counts: &mut [u64; COUNTS]) -> io::Result<()> {
     let mut k = 0;
     while k < CHUNKS {
-        chunk(fd, f, &mut *counts);
+        chunk(&mut *file, f, &mut *counts)?;
         k += 1;
     }
+    Ok(())
 }
 
-fn chunk(fd: i32, f: Features, counts: &mut [u64; COUNTS]) {
-    let mut buffer = io::buffer();
-    let n = io::read_full(fd, &mut buffer);
+fn chunk(file: &mut impl Read, f: Features, counts: &mut [u64; COUNTS]) -> io::Result<()> {
+    let mut buffer = [0u8; 4096];
+    let n = text::read_full(&mut *file, &mut buffer)?;
     count(&buffer[..n], f, &mut *counts);
+    Ok(())
 }
 
 fn count(bytes: &[u8], f: Features, counts: &mut [u64; COUNTS]) {
@@ -132,10 +139,11 @@ fn bump(counts: &mut [u64; COUNTS], at: usize)
     counts[at] = std::num::wrapping_add_u64(counts[at], 1);
 }
 
-fn told(counts: &[u64; COUNTS]) {
+fn told(out: &mut impl Write, counts: &[u64; COUNTS]) -> io::Result<()> {
     let mut c = 0;
     while c < 256 {
         told_one(
+            &mut *out,
             c as u64,
             [
                 counts[c],
@@ -144,33 +152,36 @@ fn told(counts: &[u64; COUNTS]) {
                 counts[768 + c],
                 counts[1024 + c],
             ],
-        );
+        )?;
         c += 1;
     }
+    Ok(())
 }
 
-fn told_one(c: u64, counts: [u64; 5]) {
+fn told_one(out: &mut impl Write, c: u64, counts: [u64; 5]) -> io::Result<()> {
     if (counts[0] != 0)
         | (counts[1] != 0)
         | (counts[2] != 0)
         | (counts[3] != 0)
         | (counts[4] != 0)
     {
-        say(b"  ");
-        code(c);
-        say(b": legal ");
-        number(counts[0]);
-        told_reason(b", unknown code ", counts[1]);
-        told_reason(b", feature absent ", counts[2]);
-        told_reason(b", Reserved bit ", counts[3]);
-        told_reason(b", bad parameter ", counts[4]);
-        say(b"\n");
+        say(&mut *out, b"  ")?;
+        code(&mut *out, c)?;
+        say(&mut *out, b": legal ")?;
+        number(&mut *out, counts[0])?;
+        told_reason(&mut *out, b", unknown code ", counts[1])?;
+        told_reason(&mut *out, b", feature absent ", counts[2])?;
+        told_reason(&mut *out, b", Reserved bit ", counts[3])?;
+        told_reason(&mut *out, b", bad parameter ", counts[4])?;
+        say(&mut *out, b"\n")?;
     }
+    Ok(())
 }
 
-fn told_reason(name: &[u8], n: u64) {
+fn told_reason(out: &mut impl Write, name: &[u8], n: u64) -> io::Result<()> {
     if n != 0 {
-        say(name);
-        number(n);
+        say(&mut *out, name)?;
+        number(&mut *out, n)?;
     }
+    Ok(())
 }

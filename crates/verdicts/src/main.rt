@@ -6,7 +6,12 @@ mod formats;
 mod guests;
 mod show;
 
-fn main() {
-    formats::all();
-    guests::all();
+use std::io;
+use std::io::{BufWriter, Write};
+
+fn main(rt: HostRuntime) -> io::Result<()> {
+    let mut out = BufWriter::new(rt.alloc(), io::writer(&rt))?;
+    formats::all(&mut out)?;
+    guests::all(&rt, &mut out)?;
+    out.flush()
 }

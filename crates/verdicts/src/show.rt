@@ -1,14 +1,15 @@
 // Words and numbers on standard output.
-use libc::STDOUT_FILENO;
+use std::io;
+use std::io::Write;
 
-pub fn say(text: &[u8]) {
-    io::write_all(STDOUT_FILENO, text);
+pub fn say(out: &mut impl Write, text: &[u8]) -> io::Result<()> {
+    out.write_all(text)
 }
 
-pub fn number(n: u64) {
-    io::print_decimal(STDOUT_FILENO, n);
+pub fn number(out: &mut impl Write, n: u64) -> io::Result<()> {
+    write!(out, "{n}")
 }
 
-pub fn code(n: u64) {
-    io::print_hex(STDOUT_FILENO, n, 2);
+pub fn code(out: &mut impl Write, n: u64) -> io::Result<()> {
+    write!(out, "{n:02x}")
 }

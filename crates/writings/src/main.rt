@@ -9,6 +9,9 @@
 mod calls;
 mod show;
 
+use std::io;
+use std::io::{BufReader, BufWriter, Read, Write};
+
 // One row more than the most, and one byte more than the longest queue.
 const WORDS: usize = 5 + 4 * image::MAX_ROWS;
 
@@ -17,69 +20,101 @@ const BYTES: usize = 1 + (16 << control::MAX_LOG2);
 // The words of a batch that a case may have.
 const BATCH: usize = 16 * 32;
 
-fn main() {
+fn main(rt: HostRuntime) -> io::Result<()> {
+    let mut input = BufReader::new(rt.alloc(), rt.reader())?;
+    let mut out = BufWriter::new(rt.alloc(), io::writer(&rt))?;
     let mut kept = [0u64; WORDS];
     let mut queue = [0u8; BYTES];
     let mut batch = [0u64; BATCH];
-    lines(&mut kept, &mut queue, &mut batch);
+    lines(&mut input, &mut out, &mut kept, &mut queue, &mut batch)?;
+    out.flush()
 }
 
-fn lines(kept: &mut [u64; WORDS], queue: &mut [u8; BYTES], batch: &mut [u64; BATCH]) {
+fn lines(
+    input: &mut impl Read,
+    out: &mut impl Write,
+    kept: &mut [u64; WORDS],
+    queue: &mut [u8; BYTES],
+    batch: &mut [u64; BATCH],
+) -> io::Result<()> {
     let mut slot = 16;
     let mut words = 0;
     let mut bytes = 0;
     let mut n = 0;
     for _ in 0..u64::MAX {
-        let verb = text::next();
+        let verb = text::next(&mut *input)?;
         match verb {
-            0 => return,
-            b'n' => slot = number(),
-            b'w' => calls::write(slot),
-            b'd' => n = command(&mut *batch, 0),
-            b'+' => n = command(&mut *batch, n),
-            b'-' => n = more(&mut *batch, n),
-            b'k' => words = more(&mut *kept, 0),
-            b'r' => words = more(&mut *kept, words),
-            b'q' => bytes = commands(&mut *queue),
-            _ => call(verb, &mut *kept, &mut *queue, &*batch, words, bytes, n),
+            0 => return Ok(()),
+            b'n' => slot = number(&mut *input, &mut *out)?,
+            b'w' => calls::write(&mut *input, &mut *out, slot)?,
+            b'd' => n = command(&mut *input, &mut *out, &mut *batch, 0)?,
+            b'+' => n = command(&mut *input, &mut *out, &mut *batch, n)?,
+            b'-' => n = more(&mut *input, &mut *out, &mut *batch, n)?,
+            b'k' => words = more(&mut *input, &mut *out, &mut *kept, 0)?,
+            b'r' => words = more(&mut *input, &mut *out, &mut *kept, words)?,
+            b'q' => bytes = commands(&mut *input, &mut *out, &mut *queue)?,
+            _ => call(
+                &mut *input,
+                &mut *out,
+                verb,
+                &mut *kept,
+                &mut *queue,
+                &*batch,
+                words,
+                bytes,
+                n,
+            )?,
         }
     }
+    Ok(())
 }
 
-fn number() -> usize {
-    text::label(false);
-    let w = text::eight();
-    w[0] as usize
+fn number(input: &mut impl Read, out: &mut impl Write) -> io::Result<usize> {
+    text::label(&mut *input, &mut *out, false)?;
+    let w = text::eight(&mut *input)?;
+    Ok(w[0] as usize)
 }
 
 // How many words there are after the line.
-fn more(to: &mut [u64], n: usize) -> usize {
-    text::label(false);
-    text::words(&mut *to, n)
+fn more(
+    input: &mut impl Read,
+    out: &mut impl Write,
+    to: &mut [u64],
+    n: usize,
+) -> io::Result<usize> {
+    text::label(&mut *input, &mut *out, false)?;
+    text::words(&mut *input, &mut *to, n)
 }
 
 // The same, filled up with zeros to whole commands.
-fn command(to: &mut [u64], n: usize) -> usize {
-    let mut end = more(&mut *to, n);
+fn command(
+    input: &mut impl Read,
+    out: &mut impl Write,
+    to: &mut [u64],
+    n: usize,
+) -> io::Result<usize> {
+    let mut end = more(&mut *input, &mut *out, &mut *to, n)?;
     while end % 16 != 0 {
         if to.len() <= end {
-            return end;
+            return Ok(end);
         }
         to[end] = 0;
         end += 1;
     }
-    end
+    Ok(end)
 }
 
 // How many bytes the queue has after the line.
-fn commands(queue: &mut [u8]) -> usize {
-    text::label(false);
-    let w = text::eight();
+fn commands(input: &mut impl Read, out: &mut impl Write, queue: &mut [u8]) -> io::Result<usize> {
+    text::label(&mut *input, &mut *out, false)?;
+    let w = text::eight(&mut *input)?;
     text::spread(w, &mut *queue);
-    w[0] as usize
+    Ok(w[0] as usize)
 }
 
 fn call(
+    input: &mut impl Read,
+    out: &mut impl Write,
     verb: u8,
     kept: &mut [u64],
     queue: &mut [u8],
@@ -87,20 +122,22 @@ fn call(
     words: usize,
     bytes: usize,
     n: usize,
-) {
-    text::label(true);
-    let w = text::eight();
+) -> io::Result<()> {
+    text::label(&mut *input, &mut *out, true)?;
+    let w = text::eight(&mut *input)?;
     if words <= kept.len() {
         if bytes <= queue.len() {
             if n <= batch.len() {
                 calls::call(
+                    &mut *out,
                     verb,
                     w,
                     &mut kept[..words],
                     &mut queue[..bytes],
                     &batch[..n],
-                );
+                )?;
             }
         }
     }
+    Ok(())
 }

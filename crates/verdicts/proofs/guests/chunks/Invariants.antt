@@ -1,0 +1,10 @@
+-- `verdicts::guests::chunks` is safe and ends.
+-- Assumes nothing.
+use Rattle.std.proofs.Common.{◌-◌, ◌≤◌}
+use Rattle.verdicts.proofs.guests.chunks.Given as goal
+
+abbrev pub invariant-loop-k : goal.invariant-loop-k
+invariant-loop-k g l = l.k ≤ 64
+
+abbrev pub decreases-loop-k : goal.decreases-loop-k
+decreases-loop-k g l = 64 - l.k
