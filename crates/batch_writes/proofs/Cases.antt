@@ -1,14 +1,14 @@
 -- Writing a batch, case by case, as the code comes to them.
 -- Assumes nothing.
-use mathlib.Core.Path.{◌≡◌, refl, sym, ap, ◌∙◌}
+use mathlib.Core.Path.{◌≡◌, sym, ap, ◌∙◌}
 use mathlib.Core.Bool.{Bool, true, false, not}
 use mathlib.Core.List.{List}
-use Prim.Native.Nat.{ℕ, ◌+◌, ◌*◌, ◌^◌, ◌≤◌, ◌<◌}
+use Prim.Native.Nat.{ℕ, ◌*◌, ◌^◌, ◌≤◌, ◌<◌}
 use native.Mathlib.Omega.{arith}
 use lib.Dec.{eqb, ltb}
 use lib.ListN.{length, set}
-use borrow.Author.Tests.{lt-ltb, le-ltb, not-true, not-false, eqb-true}
-use Rattle.words.specs.Outcomes.{Gives, with}
+use borrow.Author.Tests.{lt-ltb, le-ltb, not-false, eqb-true}
+use Rattle.words.specs.Outcomes.{Gives}
 use Rattle.words.proofs.Outcomes.{gives}
 use Rattle.control.specs.Control.{log2size}
 use Rattle.commands.specs.declared.Features.{Features}

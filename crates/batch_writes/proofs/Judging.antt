@@ -9,7 +9,7 @@ use native.Mathlib.Numerals.{add-one}
 use native.Mathlib.Omega.{arith}
 use lib.Dec.{eqb, leb}
 use lib.ListN.{length, take, drop}
-use borrow.Author.Tests.{eqb-true, eqb-false, eq-eqb, ne_eqb, leb-true, le-leb, lt-leb}
+use borrow.Author.Tests.{eq-eqb, ne_eqb, leb-true, le-leb, lt-leb}
 use Rattle.words.specs.Choice.{pick}
 use Rattle.commands.specs.declared.Features.{Features}
 use Rattle.writer.specs.declared.Coded.{Coded}
@@ -19,7 +19,6 @@ use Rattle.writer.specs.declared.Verdict.{Verdict}
 use Rattle.writer.specs.declared.Verdict.TheVariants.{Fit, Faulty}
 use Rattle.writer.specs.Layouts.{wide}
 use Rattle.writer.specs.Writing.{judged}
-use Rattle.batch_writes.specs.declared.Judged.{Judged}
 use Rattle.batch_writes.specs.declared.Judged.TheVariants.{AllFit, Bad}
 use Rattle.batch_writes.specs.Batch.{words_of, commands_in, judged_at, or_later, judged_from}
 

@@ -1,19 +1,18 @@
 -- Document 02, T-10: what a batch leaves. Refused, nothing; rung, each command in its slot, every other slot as it was, and as many more
 -- waiting as were written.
 -- Assumes nothing.
-use mathlib.Core.Path.{◌≡◌, refl, sym, ap, ◌∙◌}
-use mathlib.Core.Bool.{Bool, true, false, not, ◌&&◌}
+use mathlib.Core.Path.{◌≡◌, refl, ap, ◌∙◌}
+use mathlib.Core.Bool.{Bool, true, false}
 use mathlib.Core.List.{List}
 use mathlib.Core.Logic.{◌⊎◌}
-use Prim.Native.Nat.{ℕ, zero, suc, ◌+◌, ◌-◌, ◌*◌, ◌%◌, ◌^◌, ◌≤◌, ◌<◌}
+use Prim.Native.Nat.{ℕ, zero, suc, ◌+◌, ◌*◌, ◌%◌, ◌≤◌, ◌<◌}
 use native.Mathlib.Decide.{ℕ_discrete}
 use native.Mathlib.Nat.{mod-lt}
 use native.Mathlib.Omega.{arith}
-use lib.Dec.{T, eqb, leb, ltb}
+use lib.Dec.{T, eqb, ltb}
 use lib.ListN.{length, get_or, set}
 use lib.Pow.{pow_pos, pow-add}
 use borrow.Author.Tests.{eqb-true, ltb-false, le-leb}
-use Rattle.words.specs.Choice.{pick}
 use Rattle.words.specs.Outcomes.{Outcome, with}
 use Rattle.words.specs.Ranges.{Range, get}
 use Rattle.words.proofs.Parts.{apart}
@@ -23,18 +22,16 @@ use Rattle.indexes.proofs.Laws as indexed
 use Rattle.control.specs.Control as control
 use Rattle.control.proofs.Formed as control_formed
 use Rattle.control.proofs.Formed.{Formed}
-use Rattle.control_stores.specs.Stores.{may_ring, rung}
+use Rattle.control_stores.specs.Stores.{may_ring}
 use Rattle.control_stores.proofs.AfterStores.{rung-keeps, rung-sets, rung-formed}
 use Rattle.commands.specs.declared.Features.{Features}
 use Rattle.commands.specs.Decoding.{decode, decode_at}
-use Rattle.image.specs.declared.Refusal.{Refusal}
 use Rattle.image.specs.declared.Checked.{Checked}
 use Rattle.image.specs.declared.Checked.TheVariants.{Accepted, Refused as NotAccepted}
 use Rattle.image.specs.Image.{control_of, check}
 use Rattle.image.proofs.Checks.{Accepts, says}
 use Rattle.image.proofs.AfterStores.{control-stored}
 use Rattle.writer.specs.declared.Coded.{Coded}
-use Rattle.writer.specs.Layouts.{wide}
 use Rattle.writer.specs.Writing.{encoded, split, slot_size, with_command}
 use Rattle.writer.proofs.RoundTrip.{low_lt, high_lt}
 use Rattle.writer.proofs.Slots.{command-others, decodes-there, decodes-elsewhere}
@@ -44,7 +41,7 @@ use Rattle.batch_writes.specs.declared.BatchRefusal.{BatchRefusal}
 use Rattle.batch_writes.specs.declared.BatchRefusal.TheVariants.{Image, BadQueue, BadCommand, NoRoom}
 use Rattle.batch_writes.specs.declared.BatchAnswer.{BatchAnswer}
 use Rattle.batch_writes.specs.declared.BatchAnswer.TheVariants.{Refused, Rung}
-use Rattle.batch_writes.specs.Batch.{Lent, lent, words_of, commands_in, judged_from, free_in, slot_at, placed, moved_on, refused, by_judged, write_batch}
+use Rattle.batch_writes.specs.Batch.{Lent, lent, words_of, commands_in, judged_from, free_in, slot_at, placed, moved_on, refused, write_batch}
 use Rattle.batch_writes.proofs.Placed.{slot_inside, placed-length}
 
 -- the queue

@@ -1,7 +1,7 @@
 -- Document 02, T-10: several commands written into free slots, and then the doorbell. Refusals 1 to 4, then 20 or 21 of the first bad
 -- command, then 22.
 -- Assumes nothing.
-use Rattle.std.specs.Prelude.{Bool, not, List, ℕ, zero, suc, ◌+◌, ◌-◌, ◌*◌, ◌/◌, ◌%◌, ◌^◌, eqb, leb, ltb, length, take, drop, set}
+use Rattle.std.specs.Prelude.{not, List, ℕ, zero, suc, ◌+◌, ◌-◌, ◌*◌, ◌/◌, ◌%◌, ◌^◌, eqb, leb, ltb, length, take, drop, set}
 use Rattle.words.specs.Choice.{pick}
 use Rattle.words.specs.Outcomes.{Outcome, with}
 use Rattle.indexes.specs.Indexes as indexes
@@ -9,7 +9,6 @@ use Rattle.control.specs.Control as control
 use Rattle.control_stores.specs.Stores.{rung}
 use Rattle.commands.specs.declared.Features.{Features}
 use Rattle.image.specs.Image as image
-use Rattle.writer.specs.declared.Fault.{Fault}
 use Rattle.writer.specs.declared.Fault.TheVariants.{Unfit}
 use Rattle.writer.specs.declared.Verdict.{Verdict}
 use Rattle.writer.specs.declared.Verdict.TheVariants.{Fit, Faulty}
