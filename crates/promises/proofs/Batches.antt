@@ -67,7 +67,7 @@ module _ (f : Features) (m : Memory) where
   within-taken a b w i e =
       let t = laws.by_one f a (size a) m i e in
       let p = w t.which t.below in
-      laws.is-taken f b (size b) m i p.place p.below (ap (λ (d : Decoded). takes f d m i) p.same ∙ t.in_scope)
+      laws.is-taken f b (size b) m i p.place p.below (ap (λ (d : Decoded). takes f d m i) p.same ∙ t.within_scope)
 
   pub any_order : (n : ℕ) → Accepts m n → (a b : List ℕ) → Invalidations f a → is_whole b ≡ true → Within f a b → Within f b a → check f a b m ≡ Same
   any_order n accepted a b fits whole there back =
@@ -139,9 +139,9 @@ module _ (f : Features) (batch queue : List ℕ) (n k w : ℕ) (m : Memory) (acc
   gone : (i : ℕ) → i < n → taken f batch m i ≡ true → word0 after i ≡ 0
   gone i h e =
       let t = laws.by_one f batch (size batch) m i e in
-      let c = took (decode_at f batch t.which) i t.in_scope in
+      let c = took (decode_at f batch t.which) i t.within_scope in
       consumed-empties f queue n k (stored m w) begins t.which i c.command (rw ended.1 t.below) h (command t.which t.below ∙ c.is_command)
-      (memory.scoped_stored f c.command m w i ∙ c.in_scope)
+      (memory.scoped_stored f c.command m w i ∙ c.within_scope)
 
   stays : (i : ℕ) → i < n → taken f batch m i ≡ false → word0 after i ≡ word0 m i
   stays i h e =
@@ -157,7 +157,7 @@ module _ (f : Features) (batch queue : List ℕ) (n k w : ℕ) (m : Memory) (acc
           consumed l =
               let below : z.which < size batch = rw ended.1 at l in
               laws.is-taken f batch (size batch) m i z.which below
-              (ap (λ (d : Decoded). takes f d m i) (sym (command z.which below) ∙ z.is_command) ∙ sym (memory.scoped_stored f z.command m w i) ∙ z.in_scope)
+              (ap (λ (d : Decoded). takes f d m i) (sym (command z.which below) ∙ z.is_command) ∙ sym (memory.scoped_stored f z.command m w i) ∙ z.within_scope)
 
   pub run-leaves : ((run f queue k (stored m w)).ran.end ≡ Empty) × SameRows after (left f batch m)
   run-leaves =

@@ -192,7 +192,7 @@ takes-share a b s p q = by_first (either (is_global a) (eqb (asid a) s) p) (eith
 module _ (a b : Row) where
   stage-shares : (k v x : ℕ) → Staged a k v x → Staged b k v x → (kind a ≡ kind b) × (shares_stage a b ≡ true)
   stage-shares k v x p q =
-      (p.kind_is ∙ sym q.kind_is, and_true (eq-eqb (vmid a) (vmid b) (p.of-vmid ∙ sym q.of-vmid)) (covered_shares a b x p.at q.at))
+      (p.kind_is ∙ sym q.kind_is, and_true (eq-eqb (vmid a) (vmid b) (p.vmid_is ∙ sym q.vmid_is)) (covered_shares a b x p.at q.at))
 
   fit-share : (w : Wanted) → fits w a ≡ true → fits w b ≡ true → (kind a ≡ kind b) × (shares a b ≡ true)
   unfolding shares

@@ -131,7 +131,7 @@ module _ (f : Features) (queue : List ℕ) (n : ℕ) where
               command = z.1.command;
               reached = z.1.reached;
               is_command = ap (λ (w : ℕ). command_at f queue w z.1.which) (sym word) ∙ z.1.is_command;
-              within_scope = sym (memory.scoped_other f z.1.command m i j d) ∙ z.1.in_scope;
+              within_scope = sym (memory.scoped_other f z.1.command m i j d) ∙ z.1.within_scope;
             },
           ))
           was
@@ -180,7 +180,7 @@ module _ (f : Features) (queue : List ℕ) (n : ℕ) where
             command = z.command;
             reached = ⊎_elim (λ h. inl (omega arith)) (λ h. inr (ap suc h.0, h.1)) z.reached;
             is_command = ap (λ (w : ℕ). command_at f queue w z.which) (sym word) ∙ z.is_command;
-            within_scope = sym (memory.scoped_stored f z.command m v i) ∙ z.in_scope;
+            within_scope = sym (memory.scoped_stored f z.command m v i) ∙ z.within_scope;
           }
 
   abbrev After : Memory → Out Memory → Type 0
