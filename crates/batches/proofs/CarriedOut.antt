@@ -23,7 +23,7 @@ use Rattle.regions.specs.Table as regions
 use Rattle.memory.specs.Memory.{Memory, control_of, rows_in, is_kept, behind, word0, is_used, scoped_at, cleared, Whole, Untouched}
 use Rattle.memory.proofs.Laws as memory
 use Rattle.batches.specs.Batches.{size, removed_at, removed, carried, carried_out, left, differs}
-use Rattle.batches.specs.Blocks.{takes, taken_by, taken, one, apart}
+use Rattle.batches.specs.Blocks.{takes, taken_by, taken, apart}
 
 -- of n rows those that pass went: their word 0 is 0, and every other word is as it was
 pub record Went (p : ℕ → Bool) (n : ℕ) (m m' : Memory) : Type 0 where

@@ -96,7 +96,7 @@ module _ (f : Features) (batch : List ℕ) where
   by_one zero m i e = clash e refl
   by_one (suc n) m i e =
       ⊎_elim
-      (λ t. let r = by_one n m i t in record { which = r.which; below = omega (arith, r.below); within_scope = r.in_scope })
+      (λ t. let r = by_one n m i t in record { which = r.which; below = omega (arith, r.below); within_scope = r.within_scope })
       (λ t. record { which = n; below = omega arith; within_scope = t })
       (either (taken_by f batch n m i) (takes f (decode_at f batch n) m i) e)
 
