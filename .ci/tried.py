@@ -43,11 +43,16 @@ def read(path):
 
 
 @functools.cache
+def lines():
+    """The crates of crates.txt, in its order, each with its line."""
+    found = [line.split('#')[0] for line in read(os.path.join(ROOT, 'crates.txt')).split('\n')]
+    return {line.split(':')[0].split()[0]: line for line in found if ':' in line}
+
+
+@functools.cache
 def needs():
-    """The crates of crates.txt, in its order, each with those of them that its line names."""
-    lines = [line.split('#')[0].split(':') for line in read(os.path.join(ROOT, 'crates.txt')).split('\n')]
-    found = {line[0].split()[0]: line[1].split() for line in lines if len(line) == 2}
-    return {crate: [name for name in names if name in found] for crate, names in found.items()}
+    """The same, each with those of them that its line names."""
+    return {crate: [name for name in line.split(':')[1].split() if name in lines()] for crate, line in lines().items()}
 
 
 def below(crate):
@@ -110,8 +115,8 @@ def digest(root, crate, changed=None):
     """A checksum of what a check reads of one crate: its line of crates.txt and its files, some of them changed."""
     folder = os.path.join(root, 'crates', crate)
     files = [os.path.relpath(os.path.join(at, name), folder) for part in PARTS for at, _, names in os.walk(os.path.join(folder, part)) for name in names]
-    texts = [(file, (changed or {}).get(file) or read(os.path.join(folder, file))) for file in sorted(files)]
-    return hashlib.sha256(repr((crate, needs()[crate], texts)).encode()).hexdigest()
+    texts = {file: read(os.path.join(folder, file)) for file in sorted(files)} | (changed or {})
+    return hashlib.sha256(repr((lines()[crate], texts)).encode()).hexdigest()
 
 
 @functools.cache
@@ -182,7 +187,7 @@ def lay_out(place, crate, changed):
     names = [*below(crate), crate]
     os.makedirs(place)
     with open(os.path.join(place, 'crates.txt'), 'w', encoding='utf-8') as opened:
-        opened.writelines(line + '\n' for line in read(os.path.join(ROOT, 'crates.txt')).split('\n') if line.split('#')[0].split(':')[0].split()[:1] in [[name] for name in names])
+        opened.writelines(lines()[name] + '\n' for name in names)
     for name in names:
         source, to = os.path.join(ROOT, 'crates', name), os.path.join(place, 'crates', name)
         made, copy = ('out/incremental', copy_kept) if name == crate else ('out/rlib', link)
@@ -198,7 +203,8 @@ def lay_out(place, crate, changed):
 
 def check(folder, *flags):
     """The status of `rt check` in a crate's folder, and all that it says."""
-    ran = subprocess.run(['rt', 'check', *flags], cwd=folder, stdin=subprocess.DEVNULL, stdout=subprocess.PIPE, stderr=subprocess.STDOUT, encoding='utf-8', errors='replace', check=False)
+    ran = subprocess.run(['rt', 'check', *flags], cwd=folder, stdin=subprocess.DEVNULL, stdout=subprocess.PIPE, stderr=subprocess.STDOUT,
+                         encoding='utf-8', errors='replace', check=False)
     return ran.returncode, ran.stdout
 
 
