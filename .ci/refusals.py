@@ -1,30 +1,28 @@
-"""refusals.py DIR: each must-fail edit was refused because a fact fails.
+"""Whether the log of a refused must-fail edit shows that a fact fails.
 
-DIR holds a folder for each crate and in it one for each edit, with the prover's words in .log. An edit that no longer
-parses, names what is not there, or leaves a proof file that does not fit the code would be refused too, and shows nothing.
+An edit that no longer parses, names what is not there, or leaves a proof file that does not fit the code is refused too, and shows
+nothing.
 
 An edit may hold several, so that one check refuses them all. It then has a line for each, and each has to be refused for a
 failed fact of its own:
   refuses: module::function        a function, and no function that it calls is among those refused
-  refuses: module::function.fact   a fact that its proof file states by name: the others fail other facts
+  refuses: module::function.fact   a fact by the prover's name for it: the others fail other facts
   refuses: File.law                a law, where one fails and not a function
 """
-import os
 import re
-import sys
 
 OTHER_REASONS = [
-    (r'has no `Need-', 'the proof file does not fit the edited code'),
+    (r'has no `', 'the proof file does not fit the edited code'),
     (r'has no field', 'the proof file does not fit the edited code'),
-    (r'expected type `tie\.', 'the proof file does not fit the edited code'),
-    (r'has no `Tie`', 'the edited function is not of a form that a proof file answers'),
+    (r'expected type `(goal\.|(\S+\.)?(Goals|Lts)\.(After|Start))', 'the proof file does not fit the edited code'),
     (r'(is )?not in scope|unknown-name|cannot find', 'a name is missing'),
     (r'[Pp]arse|syntax|is neither', 'the edited file does not parse'),
 ]
 
-# A caller's error that only follows from a callee's, and a fact that the prover's own search leaves unproved.
-FOLLOWS = 'was not admitted'
-LEFT = 'it is not proved that'
+# An error that only follows from another's.
+FOLLOWS = r'was not admitted|declarations? that depends? on'
+# A fact that no proof file states and that the prover's own search leaves.
+LEFT = r'it is not proved that .*?\(`([^`]*)`\)'
 
 
 def messages(log):
@@ -46,9 +44,14 @@ def another(message):
     return None
 
 
+def others(found):
+    """The first reason among these messages that is not about a fact, or None."""
+    return next(filter(None, map(another, found)), None)
+
+
 def errors(log):
     """The messages that say an error, but for those that only follow from another's."""
-    return [message for message in messages(log) if 'error' in message[0] and FOLLOWS not in message[0]]
+    return [message for message in messages(log) if re.match(r'(note: )?\S+:\d+:\d+: error', message[0]) and not re.search(FOLLOWS, message[0])]
 
 
 def reason(log):
@@ -56,35 +59,46 @@ def reason(log):
     found = errors(log)
     if found:
         return another(found[0])
-    return None if LEFT in log else 'the log shows no fact that fails'
+    return None if re.search(LEFT, log) else 'the log shows no fact that fails'
 
 
 def verdict_on(log, crate, function):
-    """What the prover says of a function, from the word after its name on, or None."""
+    """What the prover says of a function, from the word after its name on, or None; and the facts that its search leaves of it, which
+    are told between the verdict before it and its own."""
     found = re.search(r'^fn %s::%s: (.*)$' % (re.escape(crate), re.escape(function)), log, re.M)
-    return found and found.group(1)
+    if not found:
+        return None, []
+    told = re.split(r'^\w+ %s::\S+: .*$' % re.escape(crate), log[:found.start()], flags=re.M)[-1]
+    unproved = found.group(1).partition('did not prove')[2]
+    return found.group(1), re.findall(LEFT, told) + re.findall('`([^`]*)`', unproved)
 
 
 def own_errors(log, file, name=''):
     """The errors in a file of proofs, of one of its names where one is given."""
-    return [message for message in errors(log) if '/proofs/%s.antt:' % file in message[0] and (not name or 'error: `%s`' % name in message[0])]
+    stated = r'(note: )?(\S*/)?proofs/%s\.antt:\d+:\d+: error: ' % file + ('`%s`' % re.escape(name) if name else '')
+    return [message for message in errors(log) if re.match(stated, message[0])]
 
 
 def own_reason(log, crate, name):
     """Why a log does not show a failed fact of one function, of one of its named facts, or of one law; None where it does."""
     where, _, fact = name.partition('.')
+    left = []
     if where[0].isupper():
-        own = own_errors(log, where, fact)
-        return next(filter(None, map(another, own)), None) if own else 'no fact of its own fails'
-    verdict = verdict_on(log, crate, where)
-    if not verdict:
-        return 'the log has no verdict on it'
-    if not re.match('not proved|no proof', verdict) or (not fact and 'it calls' in verdict):
-        return 'it is %s' % verdict[:200]
-    own = own_errors(log, where.replace('::', '/') + '/Proof', fact)
-    if not own:
-        return None if not fact and re.search('does not close|' + LEFT, verdict) else 'no fact of its own fails'
-    return next(filter(None, map(another, own)), None)
+        file = re.escape(where)
+    else:
+        file = re.escape(where.replace('::', '/')) + '/(Answers|Proof)'
+        verdict, left = verdict_on(log, crate, where)
+        if not verdict:
+            return 'the log has no verdict on it'
+        if not re.match('not proved|no proof', verdict) or (not fact and 'it calls' in verdict):
+            return 'it is %s' % verdict[:200]
+    own = own_errors(log, file, fact)
+    if own:
+        return others(own)
+    if fact in left or left and not fact:
+        return None
+    fail = left + [found.group(1) for message in own_errors(log, file) for found in [re.search('error: `([^`]*)`', message[0])] if found]
+    return 'no fact of its own fails' + (', but: ' + ', '.join(fail) if fail else '')
 
 
 def named(text):
@@ -102,32 +116,3 @@ def judged(crate, text, log):
     if shared:
         return ['%s: two edits have no fact each' % name for name in shared]
     return ['%s: %s' % (name, why) for name in names for why in [own_reason(log, crate, name)] if why]
-
-
-def main(folder):
-    wrong = 0
-    count = 0
-    members = 0
-    for crate in sorted(os.listdir(folder)):
-        for label in sorted(os.listdir(os.path.join(folder, crate))):
-            path = os.path.join(folder, crate, label, '.log')
-            if not os.path.isfile(path):
-                continue
-            count += 1
-            with open(path, encoding='utf-8', errors='replace') as opened:
-                log = opened.read()
-            with open(os.path.join('crates', crate, 'must-fail', label + '.edit'), encoding='utf-8') as opened:
-                text = opened.read()
-            members += max(1, len(named(text)))
-            for why in judged(crate, text, log):
-                print('%s/%s: %s' % (crate, label, why))
-                wrong += 1
-    if count == 0:
-        print('no must-fail edit was tried')
-        return 1
-    print('refusals: %d edits in %d checks, %d refused for another reason' % (members, count, wrong))
-    return 1 if wrong else 0
-
-
-if __name__ == '__main__':
-    sys.exit(main(sys.argv[1]))

@@ -8,6 +8,7 @@ import tempfile
 sys.dont_write_bytecode = True
 import cited
 import refusals
+import tried
 import version
 import writes
 
@@ -44,28 +45,33 @@ def citations():
 
 
 def logs():
-    expect('a failed fact', refusals.reason('note\np/Proof.antt:1:2: error: `returns`: expected type `a ≡ b`, but this has type `a ≡ c`\n') is None)
-    expect('a failed fact in several lines', refusals.reason('p/Proof.antt:1:2: error: `returns`: the two types differ where one has `a`\n  (expected) and the other `c` (found)\n  expected type `a ≡ b`, but this has type `c ≡ b`\n') is None)
-    expect('a failed sum', refusals.reason('p/Proof.antt:1:2: error: `add-i`: `omega`: the goal does not follow from what it read\n') is None)
-    expect('a fact that the search leaves', refusals.reason('p/Proof.antt:1:2: error: `f-spec`: `close` was not admitted\nnote: src/lib.rt:1:1: it is not proved that what the function ensures holds\n') is None)
+    at = './proofs/f/Answers.antt:1:2: error: '
+    left = 'note: src/lib.rt:1:1: it is not proved that what the function ensures holds when it returns (`returns`); the facts known there allow values at which this goal is false\n'
+    expect('a failed fact', refusals.reason('note\n' + at + '`returns`: expected type `a ≡ b`, but this has type `a ≡ c`\n') is None)
+    expect('a failed fact in several lines', refusals.reason(at + '`returns`: the two types differ where one has `a`\n  (expected) and the other `c` (found)\n  expected type `a ≡ b`, but this has type `c ≡ b`\n') is None)
+    expect('a failed sum', refusals.reason(at + '`overflow_add-i`: `omega`: the goal does not follow from what it read\n') is None)
+    expect('a fact that the search leaves', refusals.reason(at + '`f-spec`: `close` was not admitted\n' + left) is None)
+    expect('a law', refusals.reason('./proofs/A.antt:1:2: error: `low`: expected type `a`, but this has type `b`\n./proofs/A.antt:3:4: error: 3 declarations that depend on `low`, which was rejected, were not checked: x\n') is None)
     for log in [
         '',
-        'p/Proof.antt:1:2: error: `x` has no `Need-add-i` that can be named from here\n',
-        'p/Proof.antt:1:2: error: `f-spec`: expected type `tie.Need-shl`, but this has type `tie.Need-returns`\n',
-        'p/Proof.antt:1:2: error: `at`: the two types differ where one has `Lts.After-i`\n  (expected) and the other `Lts.After-k` (found)\n  expected type `tie.After-i`, but this has type `Lts.After-k`\n',
-        'p/Proof.antt:1:2: error: module `x.proofs.f` has no `Tie` that can be named from here\n',
-        'p/Proof.antt:1:2: error: `returns`: record `Lts.After-wr-of` has no field `rd-of`\n',
-        'p/Proof.antt:1:2: error: `returns`: record `Lts.After-wr-of`\n  has no field `rd-of`\n',
-        'src/lib.rt:1:2: error[unknown-name]: cannot find value `x` in this scope\n',
-        'specs/A.antt:1:2: error: `f`: `g` is not in scope\n',
-        'specs/A.antt:1:2: error: Parse: unexpected\n',
-        'p/Proof.antt:1:2: error: `f-spec`: `close` was not admitted (it has holes), so this cannot be checked\n',
+        'rt: an error that names no place\n',
+        at + '`overflow_add-i`: `goal.overflow_add-i`: module `Rattle.c.proofs.f.Goals` has no `overflow_add-i` that can be named from here\n',
+        at + '`f-spec`: expected type `goal.After-shl`, but this has type `goal.returns`\n',
+        at + '`at`: the two types differ where one has `Lts.After-i`\n  (expected) and the other `Lts.After-k` (found)\n  expected type `Rattle.c.proofs.f.Lts.After-i`, but this has type `Lts.After-k`\n',
+        at + 'module `Rattle.c.proofs.f` has no `Goals` that can be named from here\n',
+        at + '`returns`: record `Rattle.c.proofs.f.Lts.After-wr-of` has no field `rd-of`\n',
+        at + '`returns`: record `Rattle.c.proofs.f.Lts.After-wr-of`\n  has no field `rd-of`\n',
+        'src/lib.rt:1:2: error[unknown-name]: cannot find value `x` in this scope\n' + left,
+        './specs/A.antt:1:2: error: `f`: `g` is not in scope\n' + left,
+        './specs/A.antt:1:2: error: Parse: unexpected\n' + left,
+        at + '`f-spec`: `close` was not admitted (it has holes), so this cannot be checked\n',
+        at + '2 declarations that depend on `low`, which was rejected, were not checked: x, y\n',
     ]:
         expect('another reason: ' + log[:60], refusals.reason(log) is not None)
 
 
 def groups():
-    fact = 'c/proofs/%s/Proof.antt:1:2: error: `returns`: expected type `a ≡ b`, but this has type `a ≡ c`\n'
+    fact = './proofs/%s/Answers.antt:1:2: error: `returns`: expected type `a ≡ b`, but this has type `a ≡ c`\n'
     two = fact % 'm/f' + fact % 'g' + 'fn c::m::f: not proved\nfn c::g: not proved\nfn c::h: proved\n'
     expect('two functions, each for its own fact', [refusals.own_reason(two, 'c', name) for name in ('m::f', 'g')] == [None, None])
     one = fact % 'm/f' + 'fn c::m::f: not proved\nfn c::g: not proved; it calls `c::m::f`, which is not proved\nfn c::h: proved\n'
@@ -73,22 +79,47 @@ def groups():
     for name, what in [('h', 'a member that was proved'), ('g', 'a member that only calls'), ('x', 'a member without a verdict')]:
         expect(what, refusals.own_reason(one, 'c', name) is not None)
     expect('a member with no fact of its own', refusals.own_reason(fact % 'm/f' + 'fn c::g: not proved\n', 'c', 'g') is not None)
-    shape = 'c/proofs/g/Proof.antt:1:2: error: `x` has no `Need-add-i` that can be named from here\nfn c::g: not proved\n'
+    shape = './proofs/g/Answers.antt:1:2: error: `x`: module `Rattle.c.proofs.g.Goals` has no `x` that can be named from here\nfn c::g: not proved\n'
     expect('a member whose proof does not fit', refusals.own_reason(fact % 'm/f' + shape, 'c', 'g') is not None)
-    expect('a member that the search leaves', refusals.own_reason('fn c::g: no proof: `search` does not close `returns`\n', 'c', 'g') is None)
-    both = fact % 'm/f' + 'c/proofs/m/f/Proof.antt:3:4: error: `returns-2`: expected type `a`, but this has type `b`\nfn c::m::f: not proved\n'
+    both = fact % 'm/f' + './proofs/m/f/Answers.antt:3:4: error: `returns-2`: expected type `a`, but this has type `b`\nfn c::m::f: not proved\n'
     expect('two facts of one function', [refusals.own_reason(both, 'c', name) for name in ('m::f.returns', 'm::f.returns-2')] == [None, None])
-    expect('a fact that did not fail', refusals.own_reason(both, 'c', 'm::f.returns-3') is not None)
+    expect('a fact that did not fail', refusals.own_reason(both, 'c', 'm::f.returns-3') == 'no fact of its own fails, but: returns, returns-2')
+    expect('a fact by the beginning of its name', refusals.own_reason(both.replace('returns`', 'returns-1`'), 'c', 'm::f.returns') is not None)
     calls = fact % 'm/f' + fact % 'g' + 'fn c::m::f: not proved\nfn c::g: not proved; it calls `c::m::f`, which is not proved\n'
     expect('a fact of a caller', refusals.own_reason(calls, 'c', 'g.returns') is None)
     expect('a caller that fails no fact', refusals.own_reason(one, 'c', 'g.returns') is not None)
-    expect('a fact where the proof does not fit', refusals.own_reason(shape.replace('`x` has', '`returns`: `x` has'), 'c', 'g.returns') is not None)
+    expect('a fact where the proof does not fit', refusals.own_reason(shape.replace('error: `x`', 'error: `returns`'), 'c', 'g.returns') is not None)
     expect('a group', refusals.judged('c', 'refuses: m::f.returns\nrefuses: m::f.returns-2\n', both) == [])
     expect('one fact for two', len(refusals.judged('c', 'refuses: m::f\nrefuses: m::f\n', both)) == 1)
     expect('a function and a fact of it', len(refusals.judged('c', 'refuses: m::f\nrefuses: m::f.returns\n', both)) == 1)
-    law = 'c/proofs/Laws.antt:1:2: error: `keeps`: expected type `a`, but this has type `b`\n'
+    law = './proofs/Laws.antt:1:2: error: `keeps`: expected type `a`, but this has type `b`\n'
     expect('a law', refusals.own_reason(law, 'c', 'Laws.keeps') is None)
     expect('another law', refusals.own_reason(law, 'c', 'Laws.keep') is not None)
+
+
+def left_by_search():
+    """A fact that no proof file states is told in a note before the verdict of its function, or in the verdict."""
+    expect('a member that the search leaves', refusals.own_reason('fn c::g: no proof: expected answers in ./proofs/g/Answers.antt; `search` did not prove `returns`\n', 'c', 'g') is None)
+    note = 'note: src/lib.rt:%d:5: it is not proved that the index is below the slice\'s length (`%s`)\n'
+    log = 'fn c::e: proved\n' + note % (1, 'bounds-at') + 'help: state it\nfn c::f: not proved\n' + note % (9, 'returns') + 'fn c::g: no proof: it calls `c::f`, which is not proved\n'
+    expect('a note', [refusals.own_reason(log, 'c', name) for name in ('f', 'f.bounds-at', 'g.returns')] == [None] * 3)
+    expect('a note of another function', [refusals.own_reason(log, 'c', name) is None for name in ('f.returns', 'g.bounds-at', 'g', 'e')] == [False] * 4)
+
+
+def edits():
+    text = 'Of two.\n\n# one\nrefuses: f.returns\nfile: src/lib.rt\nold: a + 1\nnew: a + 2\n\n# two\nrefuses: g\nfile: src/lib.rt\nold:     a\nnew:\nfile: specs/A.antt\nold: n\nnew:  m\n'
+    with tempfile.TemporaryDirectory() as root:
+        write(root, 'src/lib.rt', 'f\n    a\ng a + 1\n')
+        write(root, 'specs/A.antt', 'n')
+        expect('an edit of two files', tried.edited(root, text) == {'src/lib.rt': 'f\n\ng a + 2\n', 'specs/A.antt': ' m'})
+        for wrong in ['', text.replace('old: n', 'old: o'), text.replace('old: a + 1', 'old: a'), text.replace('new: a + 2', 'new:     a')]:
+            try:
+                tried.edited(root, wrong)
+                expect('an edit that does not fit: ' + wrong[:60], False)
+            except ValueError:
+                pass
+    for status, log, holds in [(1, 'x\nlogic=not-proved\n', True), (0, 'logic=proved\n', False), (1, 'src/lib.rt:1:2: error[x]: y\n', False), (2, 'logic=not-proved\n', False)]:
+        expect('a refusal: %d %s' % (status, log), tried.is_refusal(status, log) == holds)
 
 
 def stores():
@@ -178,11 +209,11 @@ def folders():
             write(root, 'crates/%s/src/lib.rt' % crate, 'fn %s(kept: &mut [u64]) { %s }\n' % (name, 'kept[0] = 1; ' * count), 'a')
         write(root, 'crates/text/src/lib.rt', 'fn put(out: &mut [u64]) { out[0] = 1; }\n')
         write(root, 'crates/cases/src/main.rt', 'fn main() {}\n')
-        write(root, 'crates.txt', '# programs\ntext: io\nfills: words\ncases: fills text\n')
+        write(root, 'crates.txt', '# programs\ntext:\nfills: words\ncases: fills text\n')
         expect('the functions of the table', writes.main(os.path.join(root, 'crates')) == 0)
-        write(root, 'crates.txt', 'text: io\nfills: words text\n')
+        write(root, 'crates.txt', 'text:\nfills: words text\n')
         expect('the unit rests on what serves the programs', writes.main(os.path.join(root, 'crates')) == 1)
-        write(root, 'crates.txt', 'text: io\nfills: words\n')
+        write(root, 'crates.txt', 'text:\nfills: words\n')
         write(root, 'crates/due/src/more.rt', 'fn step(kept: &mut [u64]) { kept[0] = 1; kept[1] = 1; kept[2] = 1; }\n')
         expect('a second step', writes.main(os.path.join(root, 'crates')) == 1)
 
@@ -214,6 +245,8 @@ def versions():
 citations()
 logs()
 groups()
+left_by_search()
+edits()
 stores()
 evasions()
 allowed()

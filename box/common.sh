@@ -69,35 +69,30 @@ wanted_by() { # archive
     nm -u "$1" | grep -v -e '^$' -e ':$'
 }
 
-# The kit's folder: RATTLE_HOME, or the one above the folder where rt really is.
+# The kit's folder: the one above the folder where rt really is.
 kit_folder() {
     local script
-    if [ -n "${RATTLE_HOME:-}" ]; then
-        echo "$RATTLE_HOME"
-    else
-        script=$(readlink -f "$(command -v rt)") || stop "rt leads nowhere"
-        dirname "$(dirname "$script")"
-    fi
+    script=$(readlink -f "$(command -v rt)") || stop "rt leads nowhere"
+    dirname "$(dirname "$script")"
 }
 
-# The kit's compiler, which is for this machine and compiles for both.
+# The kit's compiler, which compiles for both machines.
 kit_clang() {
     local clang
-    clang=$(kit_folder)/on/$(uname -m)/toolchain/bin/clang
-    [ -x "$clang" ] || stop "the kit has no clang for this machine"
+    clang=$(kit_folder)/toolchain/bin/clang
+    [ -x "$clang" ] || stop "the kit has no clang"
     echo "$clang"
 }
 
-# Runs a proved program of target/bin, in whichever folder the script is then. They are for x86-64; on another machine the kit's
-# emulator runs them over the kit's C library.
+# Proves a program and what it rests on, and builds it. rt does so when it runs it, here on nothing.
+build_program() { # name
+    local told
+    [ -f "$root/crates/$1/src/main.rt" ] || stop "there is no program $1"
+    told=$(cd "$root/crates/$1" && rt run </dev/null 2>&1 >/dev/null)
+    grep -q "^rt: running out/$1;" <<<"$told" || { printf '%s\n' "$told" >&2; stop "$1 is not proved"; }
+}
+
+# Runs a proved program, once it is built, in whichever folder the script is then.
 run_program() { # name, arguments
-    local tools program=$root/target/bin/$1
-    shift
-    [ -x "$program" ] || stop "$program is not built"
-    if [ "$(uname -m)" = x86_64 ]; then
-        "$program" "$@"
-    else
-        tools=$(kit_folder)/on/$(uname -m)/toolchain
-        "$tools/bin/qemu-x86_64" "$tools/lib/ld-linux-x86-64.so.2" --library-path "$tools/lib" "$program" "$@"
-    fi
+    "$root/crates/$1/out/$1" "${@:2}"
 }

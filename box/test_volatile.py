@@ -4,7 +4,8 @@ import sys
 sys.dont_write_bytecode = True
 import volatile
 
-# A word of a slice, two bytes of a slot, an answer by a copy, a mark, and a function that writes to its own frame and its result.
+# A word of a slice, two bytes of a slot, an answer by a copy, a mark; a function that writes to its own frame and to its result, one
+# that hands on where its own result goes, and one that has it put into its frame.
 PLAIN = '''target datalayout = "e-m:e-i64:64-S128"
 target triple = "x86_64-unknown-linux-gnu"
 
@@ -49,18 +50,37 @@ start:
   %r1 = getelementptr i8, ptr %r0, i64 8
   store i64 0, ptr %r1, align 8
   call void @llvm.memmove.p0.p0.i64(ptr %a0, ptr %r0, i64 16, i1 false)
+  %r2 = getelementptr i8, ptr %a0, i64 8
+  store i64 1, ptr %r2, align 8
   ret void
 }
 
-attributes #0 = { nounwind "probe-stack"="inline-asm" "target-cpu"="x86-64" }
+define internal void @"unit::handed"(ptr noundef %a0, ptr noundef %a1) #0 {
+start:
+  call void @call(ptr %a0, ptr %a1)
+  ret void
+}
+
+define i64 @whole(ptr noundef %a0) #0 {
+start:
+  %r0 = alloca [16 x i8], align 8
+  %r1 = getelementptr i8, ptr %r0, i64 0
+  call void @"unit::handed"(ptr noundef %r1, ptr %a0)
+  %r2 = load ptr, ptr %r0, align 8, !noundef !1
+  call void @"unit::parts::put"(ptr %r2, i64 1)
+  ret i64 0
+}
+
+attributes #0 = { nounwind "probe-stack"="inline-asm" "target-cpu"="x86-64-v2" }
 '''
 LENT = {('unit', 'put'): 1, ('unit', 'bytes'): 2}
 OTHER = {('unit', 'tell'): 1, ('unit', 'mark'): 1, ('unit', 'elsewhere'): 1}
 LAYOUT, TRIPLE = PLAIN.split('\n')[:2]
-PROCESSOR = 'attributes #0 = { nounwind "probe-stack"="inline-asm" "target-cpu"="x86-64" }'
+PROCESSOR = 'attributes #0 = { nounwind "probe-stack"="inline-asm" "target-cpu"="x86-64-v2" }'
 WORD, PLACE = '  store i64 %a1, ptr %r3, align 8', '  %r3 = getelementptr inbounds nuw i8, ptr %r2, i64 8'
 BYTES = ['  store i8 %a1, ptr %r0, align 1', '  store i8 %a1, ptr %r1, align 1']
 ANSWER, MARK = '  call void @llvm.memmove.p0.p0.i64(ptr %a0, ptr %a1, i64 64, i1 false)', '  store i8 1, ptr %r0, align 1'
+HANDED = '  call void @"unit::handed"(ptr noundef %r1, ptr %a0)'
 FRAME, SECOND = '  store i64 %a1, ptr %r1, align 8', '  store i64 0, ptr %r1, align 8'
 FAILED = []
 
@@ -105,6 +125,10 @@ def choosing():
         ('a copy more', 'put writes 2 times', (WORD, WORD + '\n' + copy % '%r2')),
         ('a copy by another function', 'call writes 1 times', (SECOND, copy % '%a1')),
         ('a fill by another function', 'call writes 1 times', (SECOND, '  call void @llvm.memset.p0.i64(ptr align 8 %a1, i8 0, i64 8, i1 false)\n')),
+        ('a result that no call asks for', 'call writes 2 times', ('  call void @call(ptr %a0, ptr %a1)', '')),
+        ('one that goes to lent memory', 'call writes 2 times', ('  call void @call(ptr %a0, ptr %a1)', '  call void @call(ptr %a1, ptr %a1)\n')),
+        ('one that is handed on to it', 'call writes 2 times', (HANDED, '  call void @"unit::handed"(ptr noundef %a0, ptr %a0)\n')),
+        ('by one of two calls', 'call writes 2 times', (HANDED, HANDED + '\n  call void @call(ptr %a0, ptr %a0)\n')),
         ('a mark already', 'otherwise than by a plain store', (WORD, marked(WORD))),
         ('an exchange', 'otherwise than by a plain store', (WORD, '  %r4 = atomicrmw xchg ptr %r3, i64 %a1 seq_cst, align 8\n')),
         ('no function of that name', 'put is not there', ('define internal void @"unit::parts::put"(ptr noundef %a0, i64 noundef %a1) #0 {', 'define internal void @"unit::puts"(ptr noundef %a0, i64 noundef %a1) #0 {\n'), (WORD, '')),
@@ -143,7 +167,7 @@ def retargeting():
     """The same for another machine, where three lines name the target."""
     lines = volatile.chosen(PLAIN, LENT, OTHER)
     three = [(LAYOUT, LAYOUT.replace('e-m:e-', 'e-') + '\n'), (TRIPLE, TRIPLE.replace('x86_64', 'aarch64') + '\n'),
-             (PROCESSOR, PROCESSOR.replace(' "target-cpu"="x86-64"', '') + '\n')]
+             (PROCESSOR, PROCESSOR.replace(' "target-cpu"="x86-64-v2"', '') + '\n')]
     right = volatile.mark(PLAIN, lines)
     other = turned(right, *three)
     volatile.check(PLAIN, other, lines, 3)

@@ -7,8 +7,9 @@ A compiler may merge plain stores, drop them and exchange them; of volatile ones
 
 A store is to lent memory if its pointer is not of its function's own frame: neither an alloca nor an element of one. Every function
 of the text has to have as many writes of this kind as its source has stores, by the tables of .ci/writes.py, and one that is not in
-them none. The stores of the first table are marked, and nothing of the second, where an answer's is a copy. A copy to a function's
-first parameter, where it returns void, is its result and no such write. The FUNCTIONs stand in for the tables, for another text.
+them none. The stores of the first table are marked, and nothing of the second, where an answer's is a copy. A function that returns
+nothing may write its result through its first parameter. That is no such write where every call of it hands over a place of the
+caller's own frame, or where the caller's own result goes. The FUNCTIONs stand in for the tables, for another text.
 """
 import os
 import re
@@ -20,10 +21,11 @@ import writes
 DEFINE = r'define (.*?)@"?([\w:.]+)"?\((?:ptr (?:\w+ )*(%[\w.]+))?'
 OWN = r'  (%[\w.]+) = (?:(alloca) |getelementptr .*?, ptr ([^\s,]+))'
 STORE = r'  store .*, ptr (\S+?)(?:,|$)'
+CALL = r'  (?:tail )?call void @"?([\w:.]+)"?\(ptr (?:\w+ )*([^\s,)]+)'
 COPY = r'  (?:tail )?call void @llvm\.mem[\w.]+\(ptr (?:\w+ )*([^\s,]+)'
 UNKNOWN = r'  .*\b(?:store (?:volatile|atomic)|atomicrmw|cmpxchg|asm|llvm\.masked)\b'
 TARGET = r'target (?:datalayout|triple) = "'
-PROCESSOR = ' "target-cpu"="x86-64"'
+PROCESSOR = ' "target-cpu"="x86-64-v2"'
 
 
 class Wrong(Exception):
@@ -36,28 +38,59 @@ def key(name):
     return parts[0], parts[-1]
 
 
-def writing(text):
-    """Each function of a text, with its writes beyond its own frame: the line of each, or None of a copy."""
-    found, own = [], set()
+def functions(text):
+    """Each function of a text: its name, its first parameter if that is a pointer and it returns nothing, and its numbered lines."""
+    found = []
     for number, line in enumerate(text.split('\n')):
         if line.startswith('define '):
             define = re.match(DEFINE, line)
-            result = define.group(3) if define.group(1).split()[-1] == 'void' else None
-            own = set()
-            found.append((key(define.group(2)), []))
-        elif re.match(UNKNOWN, line):
-            raise Wrong('line %d writes otherwise than by a plain store: %s' % (number + 1, line))
-        elif re.match(OWN, line):
-            name, frame, base = re.match(OWN, line).groups()
-            if frame or base in own:
-                own.add(name)
-        elif line.startswith('  store '):
-            to = re.match(STORE, line)
-            if not to or to.group(1) not in own:
-                found[-1][1].append(number)
-        elif re.match(COPY, line) and re.match(COPY, line).group(1) not in own | {result}:
-            found[-1][1].append(None)
+            found.append((define.group(2), define.group(3) if define.group(1).split()[-1] == 'void' else None, []))
+        elif found:
+            found[-1][2].append((number, line))
     return found
+
+
+def own_places(lines, result):
+    """A function's pointers to its own frame, and to where its result goes, if that is given."""
+    own = {result} - {None}
+    for _, line in lines:
+        place = re.match(OWN, line)
+        if place and (place.group(2) or place.group(3) in own):
+            own.add(place.group(1))
+    return own
+
+
+def results(found):
+    """The functions whose first parameter is where their result goes, which is in a frame, each with that parameter."""
+    may = {name: first for name, first, _ in found if first}
+    while True:
+        called, lent = set(), set()
+        for name, _, lines in found:
+            own = own_places(lines, may.get(name))
+            calls = [re.match(CALL, line).groups() for _, line in lines if re.match(CALL, line)]
+            called.update(callee for callee, _ in calls)
+            lent.update(callee for callee, place in calls if place not in own)
+        if may.keys() <= called - lent:
+            return may
+        may = {name: may[name] for name in may.keys() & (called - lent)}
+
+
+def writing(text):
+    """Each function of a text, with its writes beyond its own frame: the line of each, or None of a copy."""
+    found, told = functions(text), []
+    to_frames = results(found)
+    for name, _, lines in found:
+        own, written = own_places(lines, to_frames.get(name)), []
+        for number, line in lines:
+            if re.match(UNKNOWN, line):
+                raise Wrong('line %d writes otherwise than by a plain store: %s' % (number + 1, line))
+            if line.startswith('  store '):
+                to = re.match(STORE, line)
+                written += [] if to and to.group(1) in own else [number]
+            elif re.match(COPY, line):
+                written += [] if re.match(COPY, line).group(1) in own else [None]
+        told.append((key(name), written))
+    return told
 
 
 def chosen(text, lent, other):

@@ -1,5 +1,5 @@
 /* One run over the words of `bench give`, for counting its instructions. This file's code lies outside .text, so that .text has
-   the unit's and nothing else. The kit's compiler has no headers, so the types and the call are declared here. */
+   the unit's and nothing else. It is linked without a C library, so the types and the call are declared here. */
 typedef __UINT64_TYPE__ word;
 typedef __SIZE_TYPE__ length;
 

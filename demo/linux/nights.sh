@@ -40,7 +40,7 @@ kill_once() { # folder, milliseconds
 kills() { # seed, count
     local i waiting=0
     RANDOM=$1
-    [ -n "${INSPECT:-}" ] || rt check inspect >"$runs/inspect.log" 2>&1 || stop "inspect is not proved; see $runs/inspect.log"
+    [ -n "${INSPECT:-}" ] || build_program inspect
     new_folder kills
     for ((i = 1; i <= $2; i++)); do
         kill_once "$runs/kills" $((1 + RANDOM % 6000))

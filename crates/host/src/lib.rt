@@ -1,5 +1,5 @@
 // The C interface. Each call carries out one of the unit's, and tells its outcome by numbers: it returns 0 or the refusal's
-// number, and fills the eight words of the answer. include/tahvenno.h says what each word is.
+// number, and fills the eight words of the answer. include/tahvenno.h says what each word is. host_c exports them.
 #![tactic(auto)]
 
 ghost use Rattle.interface.specs.Asked.{transaction_of};
@@ -22,8 +22,7 @@ fn tell(answer: &mut [u64; 8], reply: Reply) -> u64
     reply.code
 }
 
-#[unsafe(no_mangle)]
-pub extern "C" fn tahvenno_run(
+pub fn tahvenno_run(
     kept: &mut [u64],
     table: &mut [u64],
     queue: &[u8],
@@ -38,8 +37,7 @@ pub extern "C" fn tahvenno_run(
     tell(&mut *answer, interface::run_reply(a))
 }
 
-#[unsafe(no_mangle)]
-pub extern "C" fn tahvenno_fill(
+pub fn tahvenno_fill(
     kept: &mut [u64],
     row: u64,
     w0: u64,
@@ -56,8 +54,7 @@ pub extern "C" fn tahvenno_fill(
 }
 
 // The second table is lent beside the kept memory, which is only read.
-#[unsafe(no_mangle)]
-pub extern "C" fn tahvenno_table_fill(
+pub fn tahvenno_table_fill(
     kept: &[u64],
     table: &mut [u64],
     row: u64,
@@ -78,40 +75,35 @@ pub extern "C" fn tahvenno_table_fill(
     tell(&mut *answer, interface::table_fill_reply(a))
 }
 
-#[unsafe(no_mangle)]
-pub extern "C" fn tahvenno_doorbell(kept: &mut [u64], wr: u64, answer: &mut [u64; 8]) -> u64
+pub fn tahvenno_doorbell(kept: &mut [u64], wr: u64, answer: &mut [u64; 8]) -> u64
     ensures { Leaves (doorbell wr kept.old) kept.new answer.new result }
 {
     let a = control_calls::doorbell(&mut *kept, wr);
     tell(&mut *answer, interface::doorbell_reply(a))
 }
 
-#[unsafe(no_mangle)]
-pub extern "C" fn tahvenno_acknowledge(kept: &mut [u64], answer: &mut [u64; 8]) -> u64
+pub fn tahvenno_acknowledge(kept: &mut [u64], answer: &mut [u64; 8]) -> u64
     ensures { Leaves (acknowledge kept.old) kept.new answer.new result }
 {
     let a = control_calls::acknowledge(&mut *kept);
     tell(&mut *answer, interface::acknowledge_reply(a))
 }
 
-#[unsafe(no_mangle)]
-pub extern "C" fn tahvenno_clear_pending(kept: &mut [u64], answer: &mut [u64; 8]) -> u64
+pub fn tahvenno_clear_pending(kept: &mut [u64], answer: &mut [u64; 8]) -> u64
     ensures { Leaves (clear_pending kept.old) kept.new answer.new result }
 {
     let a = control_calls::clear_pending(&mut *kept);
     tell(&mut *answer, interface::clear_reply(a))
 }
 
-#[unsafe(no_mangle)]
-pub extern "C" fn tahvenno_enable(kept: &mut [u64], on: u64, answer: &mut [u64; 8]) -> u64
+pub fn tahvenno_enable(kept: &mut [u64], on: u64, answer: &mut [u64; 8]) -> u64
     ensures { Leaves (enable on kept.old) kept.new answer.new result }
 {
     let a = control_calls::enable(&mut *kept, !(on == 0));
     tell(&mut *answer, interface::enable_reply(a))
 }
 
-#[unsafe(no_mangle)]
-pub extern "C" fn tahvenno_translate(
+pub fn tahvenno_translate(
     kept: &[u64],
     stream: u32,
     substream: u32,
@@ -137,8 +129,7 @@ pub extern "C" fn tahvenno_translate(
     )
 }
 
-#[unsafe(no_mangle)]
-pub extern "C" fn tahvenno_state(kept: &[u64], answer: &mut [u64; 8]) -> u64
+pub fn tahvenno_state(kept: &[u64], answer: &mut [u64; 8]) -> u64
     ensures { Told (state kept.now) answer.new result }
 {
     tell(
@@ -148,8 +139,7 @@ pub extern "C" fn tahvenno_state(kept: &[u64], answer: &mut [u64; 8]) -> u64
 }
 
 // Document 02, T-12: nothing is stored, whatever the answer is.
-#[unsafe(no_mangle)]
-pub extern "C" fn tahvenno_check_batch(
+pub fn tahvenno_check_batch(
     kept: &[u64],
     table: &[u64],
     original: &[u8],
@@ -170,8 +160,7 @@ pub extern "C" fn tahvenno_check_batch(
 }
 
 // The recorder, in words of its own.
-#[unsafe(no_mangle)]
-pub extern "C" fn tahvenno_event_write(
+pub fn tahvenno_event_write(
     events: &mut [u64],
     bytes: &[u8; 32],
     allowance: u64,
@@ -183,16 +172,14 @@ pub extern "C" fn tahvenno_event_write(
     tell(&mut *answer, interface::event_write_reply(a))
 }
 
-#[unsafe(no_mangle)]
-pub extern "C" fn tahvenno_event_read(events: &mut [u64], answer: &mut [u64; 8]) -> u64
+pub fn tahvenno_event_read(events: &mut [u64], answer: &mut [u64; 8]) -> u64
     ensures { Leaves (event_read events.old) events.new answer.new result }
 {
     let a = event_calls::read(&mut *events);
     tell(&mut *answer, interface::event_read_reply(a))
 }
 
-#[unsafe(no_mangle)]
-pub extern "C" fn tahvenno_event_acknowledge(events: &mut [u64], answer: &mut [u64; 8]) -> u64
+pub fn tahvenno_event_acknowledge(events: &mut [u64], answer: &mut [u64; 8]) -> u64
     ensures { Leaves (event_acknowledge events.old) events.new answer.new result }
 {
     let a = event_calls::acknowledge(&mut *events);
@@ -200,8 +187,7 @@ pub extern "C" fn tahvenno_event_acknowledge(events: &mut [u64], answer: &mut [u
 }
 
 // A command written by its fields. Nothing is kept: the slot is the caller's.
-#[unsafe(no_mangle)]
-pub extern "C" fn tahvenno_write_command(
+pub fn tahvenno_write_command(
     slot: &mut [u8],
     fields: &[u64; 16],
     features: u64,
@@ -213,8 +199,7 @@ pub extern "C" fn tahvenno_write_command(
     tell(&mut *answer, interface::write_reply(a))
 }
 
-#[unsafe(no_mangle)]
-pub extern "C" fn tahvenno_write_batch(
+pub fn tahvenno_write_batch(
     kept: &mut [u64],
     queue: &mut [u8],
     commands: &[u64],
