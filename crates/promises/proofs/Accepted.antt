@@ -1,9 +1,8 @@
 -- Demand 1: from memory that refusals 1, 2 and 3 accept, a run at every allowance leaves memory that they accept.
 -- Assumes nothing.
-use mathlib.Core.Path.{◌≡◌, sym, ◌∙◌}
+use mathlib.Core.Path.{◌≡◌}
 use mathlib.Core.List.{List}
 use Prim.Native.Nat.{ℕ}
-use lib.ListN.{length}
 use Rattle.control.proofs.Formed as control_formed
 use Rattle.control.proofs.Openness.{open-waits}
 use Rattle.control_stores.proofs.AfterStores.{raised-formed}
@@ -13,7 +12,7 @@ use Rattle.memory.specs.Memory.{Memory, control_of}
 use Rattle.memory.proofs.Laws.{Accepts, rows_are, control_formed as word-formed, stored-accepted, cleared-accepted}
 use Rattle.due.specs.Due.{What}
 use Rattle.due.proofs.Consuming.{after-formed}
-use Rattle.runs.specs.Running.{Next, stores, due_in, run}
+use Rattle.runs.specs.Running.{stores, due_in, run}
 use Rattle.promises.proofs.Cases.{Case, removes, consumes, raises, IsDue, is_due}
 use Rattle.promises.proofs.Sums.{run-keeps}
 

@@ -8,7 +8,6 @@ use Prim.Native.Nat.{ℕ, ◌*◌, ◌^◌}
 use native.Mathlib.Omega.{arith}
 use lib.Dec.{eqb}
 use lib.ListN.{length}
-use lib.Seq.{get_or-set_same}
 use Rattle.words.specs.Outcomes.{Outcome}
 use Rattle.control.specs.Control as control
 use Rattle.control_stores.specs.Stores as control-stores
@@ -20,19 +19,17 @@ use Rattle.memory.proofs.Laws.{Accepts, accepted-whole, control-stored, control-
 use Rattle.due.specs.Due.{What, after_command}
 use Rattle.due.proofs.Consuming.{after-keeps}
 use Rattle.runs.specs.declared.RunRefusal.{RunRefusal}
-use Rattle.runs.specs.declared.RunRefusal.TheVariants.{Image, BadQueue}
+use Rattle.runs.specs.declared.RunRefusal.TheVariants.{BadQueue}
 use Rattle.runs.specs.declared.RunAnswer.{RunAnswer}
-use Rattle.runs.specs.declared.RunAnswer.TheVariants.{Refused, Done}
-use Rattle.runs.specs.declared.End.TheVariants.{Cut}
-use Rattle.runs.specs.Running.{Out, stores, due_in, run}
+use Rattle.runs.specs.Running.{stores, due_in, run}
 use Rattle.runs.specs.Call.{queue_good, refused, done, call}
 use Rattle.runs.proofs.Calling.{goes_through, Answered, no, yes, answered}
 use Rattle.promises.specs.Cuts.{again, AllCut, none as All-none, one as all_one}
-use Rattle.promises.specs.Calls.{◌and◌, calls, EndsCut, CallsCut, none, one, CarriedOut}
+use Rattle.promises.specs.Calls.{calls, EndsCut, CallsCut, none, one, CarriedOut}
 use Rattle.promises.proofs.Cases.{Case, removes, consumes, raises, is_due}
 use Rattle.promises.proofs.Sums.{run-keeps}
 use Rattle.promises.proofs.Accepted.{store-accepted, run-accepted}
-use Rattle.promises.proofs.Resume.{as-uncut, uncut-same}
+use Rattle.promises.proofs.Resume.{as-uncut}
 
 module _ (f : Features) (queue : List ℕ) where
   -- a run keeps LOG2SIZE

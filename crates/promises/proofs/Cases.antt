@@ -1,8 +1,8 @@
 -- What single store is due in a run, case by case.
 -- Assumes nothing.
-use mathlib.Core.Path.{◌≡◌, refl, sym, ap, ◌∙◌}
+use mathlib.Core.Path.{◌≡◌, refl, ◌∙◌}
 use mathlib.Core.List.{List}
-use Prim.Native.Nat.{ℕ, ◌+◌, ◌*◌}
+use Prim.Native.Nat.{ℕ}
 use native.Mathlib.Omega.{arith}
 use Rattle.words.specs.declared.Found.{Found}
 use Rattle.words.specs.declared.Found.TheVariants.{At, Nothing}
@@ -19,9 +19,9 @@ use Rattle.commands.specs.declared.Decoded.TheVariants.{Legal, Illegal}
 use Rattle.commands.specs.Decoding.{syncs_of}
 use Rattle.commands.specs.declared.Reason.{Reason}
 use Rattle.memory.specs.Memory.{Memory, control_of, rows_in, scoped_at, stored as storedIn, cleared}
-use Rattle.due.specs.Due.{What, Remove, Consume, Raise, Due, Rests, Stores, scan, by_scan, after_command, due_for, at_rd, gate, due, raising_at}
+use Rattle.due.specs.Due.{What, Remove, Consume, Raise, scan, by_scan, after_command, due_for, at_rd, gate, due, raising_at}
 use Rattle.due.proofs.Scans.{lowest-scoped}
-use Rattle.runs.specs.Running.{Next, rests, stores, next_of, due_in}
+use Rattle.runs.specs.Running.{rests, stores, next_of, due_in}
 
 -- the store is one of three: the lowest row in scope of a legal command, the command itself once there is none, or the error
 pub data Case (f : Features) (queue : List ℕ) (m : Memory) (w : What) (m' : Memory) : Type 0 where

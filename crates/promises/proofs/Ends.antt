@@ -23,13 +23,12 @@ use Rattle.memory.proofs.Laws.{Accepts}
 use Rattle.due.specs.Due.{Remove, Consume, Raise, raising_at}
 use Rattle.runs.specs.declared.End.{End}
 use Rattle.runs.specs.declared.End.TheVariants.{Off, Held, Empty, Raised, Cut}
-use Rattle.runs.specs.Running.{Out, Next, rests, stores, last, next, run_by, end_of, due_in, run}
+use Rattle.runs.specs.Running.{Next, rests, stores, last, next, run_by, end_of, due_in, run}
 use Rattle.promises.specs.Found.{advanced, command_at, closing}
 use Rattle.promises.specs.Ends.{IsOff, IsHeld, IsEmpty, Means}
 use Rattle.promises.proofs.Resume.{rest_unraised}
 use Rattle.promises.proofs.Sums.{cut-means}
 use Rattle.promises.proofs.Cases.{rests-at, open_stores}
-use Rattle.promises.proofs.Accepted.{store-accepted}
 use Rattle.promises.proofs.Finding.{found_after}
 use Rattle.promises.proofs.IllegalCommands.{raised-slot}
 use Rattle.promises.proofs.RunCalls.{raised-run, error-tells}

@@ -1,8 +1,8 @@
 -- Demand 3, of filling: after any number of cuts the fill that is not cut answers and leaves what one that never was does.
 -- Assumes nothing.
-use mathlib.Core.Path.{◌≡◌, refl, sym, ap, ◌∙◌}
+use mathlib.Core.Path.{◌≡◌, refl, sym, ◌∙◌}
 use mathlib.Core.List.{List, [], ◌∷◌}
-use mathlib.Core.Logic.{◌⊎◌, inl, inr, ⊎_elim}
+use mathlib.Core.Logic.{⊎_elim}
 use Prim.Native.Nat.{ℕ, ◌≤◌, ◌<◌}
 use native.Mathlib.Omega.{arith}
 use Rattle.words.specs.Stores.{after_stores}
@@ -11,10 +11,9 @@ use Rattle.words.proofs.Stores.{after-all}
 use Rattle.words.proofs.Truth.{less_or_not}
 use Rattle.rows.specs.declared.Row.{Row}
 use Rattle.fills.specs.declared.FillEnd.TheVariants.{Filled, Cut}
-use Rattle.fills.specs.declared.FillAnswer.{FillAnswer}
 use Rattle.fills.specs.declared.FillAnswer.TheVariants.{Done}
 use Rattle.fills.specs.Fills.{fill_stores, fill}
-use Rattle.fills.proofs.Laws.{Carried, carried, left_by, enough, not_enough, still_carried, fill-again, Goes, stops, stores, which-way}
+use Rattle.fills.proofs.Laws.{Carried, left_by, enough, not_enough, still_carried, fill-again, Goes, stops, stores, which-way}
 use Rattle.promises.specs.Filling.{EndsCut, refilled, FillsCut, none, one}
 
 module _ (row : ℕ) (words : Row) where

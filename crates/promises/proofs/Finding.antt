@@ -1,17 +1,17 @@
 -- Demand 3: what is found after a run at every allowance.
 -- Assumes nothing.
 use mathlib.Core.Path.{◌≡◌, refl, sym, ap, ◌∙◌}
-use mathlib.Core.Bool.{Bool, true, false}
+use mathlib.Core.Bool.{true, false}
 use mathlib.Core.List.{List}
 use mathlib.Core.Logic.{◌⊎◌, inl, inr, ⊎_elim}
-use Prim.Native.Nat.{ℕ, zero, suc, ◌+◌, ◌*◌, ◌≤◌, ◌<◌}
+use Prim.Native.Nat.{ℕ, zero, suc, ◌<◌}
 use native.Mathlib.Decide.{ℕ_discrete}
 use native.Mathlib.Nat.{zero-add}
 use native.Mathlib.Numerals.{one-add}
 use native.Mathlib.Omega.{arith}
 use Rattle.words.specs.declared.Found.TheVariants.{Nothing}
 use Rattle.words.proofs.Search.{Lowest, from_zero, none}
-use Rattle.words.proofs.Truth.{clash, decided}
+use Rattle.words.proofs.Truth.{clash}
 use Rattle.control.specs.Control as control
 use Rattle.control.specs.declared.Rest.{Rest}
 use Rattle.control.specs.declared.Standing.TheVariants.{Open}
@@ -26,10 +26,10 @@ use Rattle.commands.specs.Decoding.{decode_at, is_illegal}
 use Rattle.memory.specs.Memory.{Memory, control_of, rows_in, word0, scoped_at, stored as storedIn, cleared}
 use Rattle.memory.proofs.Laws as memory
 use Rattle.memory.proofs.Laws.{Accepts}
-use Rattle.due.specs.Due.{What, Remove, Consume, Raise, scan, after_command, raising_at, at_rd}
+use Rattle.due.specs.Due.{What, scan, after_command, raising_at, at_rd}
 use Rattle.runs.specs.declared.End.{End}
 use Rattle.runs.specs.declared.End.TheVariants.{Off, Held, Empty, Raised, Cut}
-use Rattle.runs.specs.Running.{Out, Next, rests, stores, rested, plus, last, next, run_by, due_in, run, end_of}
+use Rattle.runs.specs.Running.{Out, Next, rests, stores, last, next, run_by, due_in, run, end_of}
 use Rattle.promises.specs.Sums.{raise}
 use Rattle.promises.specs.Found.{advanced, command_at, closing, Consumed, WasInScope, Found}
 use Rattle.promises.proofs.Cases.{Case, removes, consumes, raises, IsDue, is_due, open_stores}

@@ -1,20 +1,19 @@
 -- Demand 2: CERROR_ILL comes exactly on an illegal command, removes nothing, and holds the queue there until acknowledged.
 -- Assumes nothing.
-use mathlib.Core.Path.{◌≡◌, refl, sym, ap, ◌∙◌}
+use mathlib.Core.Path.{◌≡◌, sym, ap, ◌∙◌}
 use mathlib.Core.Bool.{Bool, true, false}
 use mathlib.Core.List.{List}
-use Prim.Native.Nat.{ℕ, zero, suc, ◌<◌}
-use native.Mathlib.Omega.{arith}
-use lib.Dec.{T, eqb}
+use Prim.Native.Nat.{ℕ, suc}
+use lib.Dec.{T}
 use Rattle.words.specs.Ranges.{Range, get}
 use Rattle.words.proofs.Parts.{apart, all_apart}
 use borrow.Author.Tests.{eq-eqb, ne_eqb}
 use Rattle.control.specs.Control as control
 use Rattle.control.specs.declared.Rest.TheVariants.{Off as Rest-as-Off, Held as Rest-as-Held}
 use Rattle.control.specs.declared.Standing.TheVariants.{Resting, Open}
-use Rattle.control.proofs.Openness.{open-enabled, open-quiet, open-waits}
+use Rattle.control.proofs.Openness.{open-enabled, open-waits}
 use Rattle.control_stores.specs.Stores as control-stores
-use Rattle.control_stores.proofs.AfterStores.{raises, raised_keeps, raised-active, acknowledged-keeps, acknowledged-quiet, rung-keeps, switched-keeps, same-active}
+use Rattle.control_stores.proofs.AfterStores.{raises, raised_keeps, acknowledged-keeps, acknowledged-quiet, rung-keeps, switched-keeps, same-active}
 use Rattle.commands.specs.declared.Features.{Features}
 use Rattle.commands.specs.declared.Decoded.TheVariants.{Illegal}
 use Rattle.commands.specs.Decoding.{decode_at}
@@ -22,7 +21,7 @@ use Rattle.commands.specs.declared.Reason.{Reason}
 use Rattle.memory.specs.Memory.{Memory, control_of, stored as storedIn}
 use Rattle.due.specs.Due.{Raise, due_for, at_rd, due, raising_at}
 use Rattle.runs.specs.declared.End.TheVariants.{Off, Held, Raised, Cut}
-use Rattle.runs.specs.Running.{rests, stores, rested, plus, run_by, due_in, run}
+use Rattle.runs.specs.Running.{stores, rested, plus, run_by, due_in, run}
 use Rattle.runs.proofs.Turns.{run-rests, due-rests}
 
 -- the standing of a word, by its parts

@@ -1,17 +1,16 @@
 -- Demand 2: a legal command removes exactly the rows in its scope.
 -- Assumes nothing.
 use mathlib.Core.Path.{◌≡◌, refl, sym, ap, ◌∙◌}
-use mathlib.Core.Bool.{Bool, true, false}
+use mathlib.Core.Bool.{true, false}
 use mathlib.Core.List.{List}
-use mathlib.Core.Logic.{⊎_elim}
-use Prim.Native.Nat.{ℕ, zero, suc, ◌+◌, ◌*◌, ◌≤◌, ◌<◌}
+use Prim.Native.Nat.{ℕ, zero, suc, ◌<◌}
 use native.Mathlib.Decide.{ℕ_discrete}
 use native.Mathlib.Nat.{zero-add, suc-add}
 use native.Mathlib.Omega.{arith}
 use Rattle.words.specs.declared.Found.{Found}
 use Rattle.words.specs.declared.Found.TheVariants.{At, Nothing}
 use Rattle.words.specs.Search.{count}
-use Rattle.words.proofs.Truth.{clash, decided}
+use Rattle.words.proofs.Truth.{clash}
 use Rattle.words.proofs.Search.{Lowest, from_zero, none, is_none, count_less, count_none_passes, none_pass_count}
 use Rattle.control.specs.Control as control
 use Rattle.control.specs.declared.Standing.TheVariants.{Open}
@@ -24,7 +23,7 @@ use Rattle.memory.proofs.Laws as memory
 use Rattle.memory.proofs.Laws.{Accepts}
 use Rattle.due.specs.Due.{Remove, Consume, scan, after_command, due_for, at_rd, due}
 use Rattle.due.proofs.Scans.{lowest-scoped}
-use Rattle.runs.specs.Running.{stores, plus, run_by, due_in, run}
+use Rattle.runs.specs.Running.{stores, plus, run_by, due_in}
 use Rattle.runs.proofs.Turns.{plus-plus}
 use Rattle.promises.specs.Swept.{Swept, Exact}
 

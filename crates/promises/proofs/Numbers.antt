@@ -1,8 +1,8 @@
 -- Document 01, When the unit says no: each call gives the first number of its row that applies, and 0 where none does.
 -- Assumes nothing.
-use mathlib.Core.Path.{◌≡◌, refl, sym, ap, ◌∙◌}
+use mathlib.Core.Path.{◌≡◌, refl, ap, ◌∙◌}
 use mathlib.Core.Bool.{Bool, true, false, not, ◌&&◌}
-use mathlib.Core.List.{List, [], ◌∷◌, ◌++◌}
+use mathlib.Core.List.{List, [], ◌++◌}
 use Prim.Native.Nat.{ℕ, ◌*◌, ◌^◌}
 use lib.Dec.{eqb, leb, ltb}
 use lib.ListN.{length, get_or, set}
@@ -20,7 +20,7 @@ use Rattle.commands.specs.declared.Features.{Features}
 use Rattle.image.specs.declared.Refusal.{Refusal}
 use Rattle.image.specs.declared.Refusal.TheVariants.{BadLength, BadControl, BadRow}
 use Rattle.image.specs.declared.Checked.{Checked}
-use Rattle.image.specs.declared.Checked.TheVariants.{Accepted, Refused}
+use Rattle.image.specs.declared.Checked.TheVariants.{Accepted}
 use Rattle.image.specs.Image as image
 use Rattle.image.proofs.Checks.{bad_length, bad_control, rows_case, says, rows_are}
 use Rattle.runs.specs.declared.End.{End}
@@ -59,7 +59,7 @@ use Rattle.batch_writes.specs.Batch as batch
 use Rattle.batch_writes.specs.Batch.{Lent}
 use Rattle.batches.specs.declared.Batch.TheVariants.{Original, Proposed}
 use Rattle.batches.specs.Batches as batches
-use Rattle.promises.specs.Numbers.{run_number, check_number, fill_number, table_fill_number, doorbell_number, acknowledge_number, clear_number, enable_number, translate_number, Rule, first, some, of_image, of_table, of_run, of_check, of_doorbell, of_acknowledge, of_clear, of_fill, of_table_fill, of_transaction, run_ends, fill_ends, write_number, of_write, batch_number, first_lacks, first_unfit, of_batch}
+use Rattle.promises.specs.Numbers.{run_number, check_number, fill_number, table_fill_number, doorbell_number, acknowledge_number, clear_number, enable_number, translate_number, Rule, first, of_image, of_table, of_run, of_check, of_doorbell, of_acknowledge, of_clear, of_fill, of_table_fill, of_transaction, run_ends, fill_ends, write_number, of_write, batch_number, first_lacks, first_unfit, of_batch}
 
 -- 1, 2 and 3, and then the numbers of the call's own
 module _ {A : Type 0} (m : List ℕ) (number : A → ℕ) (refuses : Refusal → A) (continues : ℕ → A) (rules : List Rule)

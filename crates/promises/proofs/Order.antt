@@ -4,13 +4,13 @@
 use mathlib.Core.Path.{◌≡◌, refl, sym, ap, ◌∙◌}
 use mathlib.Core.List.{List, [], ◌∷◌}
 use Prim.Native.Nat.{ℕ, zero, suc, ◌+◌, ◌≤◌}
-use native.Mathlib.Nat.{zero-add, suc-add}
+use native.Mathlib.Nat.{suc-add}
 use native.Mathlib.Omega.{arith}
 use native.Mathlib.Numerals.{one-add}
 use lib.ListN.{length, take, get_or, length-take}
 use lib.Seq.{take-nil, get_or-take}
-use Rattle.due.specs.Due.{What, Remove, Consume, Raise}
-use Rattle.runs.specs.Running.{Out, Next, rests, stores, last, next, run_by}
+use Rattle.due.specs.Due.{Remove, Consume, Raise}
+use Rattle.runs.specs.Running.{Next, rests, stores, last, next, run_by}
 use Rattle.promises.specs.Order.{passed_next, passed}
 
 module _ {M : Type 0} (f : M → Next M) where

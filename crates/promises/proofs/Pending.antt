@@ -1,7 +1,7 @@
 -- Document 02, T-08: a completion interrupt is pending after a run exactly if it was before, or a CMD_SYNC with CS 1 was consumed. So
 -- no cut takes it away.
 -- Assumes nothing.
-use mathlib.Core.Path.{◌≡◌, refl, sym, ap, ◌∙◌}
+use mathlib.Core.Path.{◌≡◌, refl, ap, ◌∙◌}
 use mathlib.Core.Bool.{Bool, true, false}
 use mathlib.Core.List.{List}
 use mathlib.Core.Logic.{◌⊎◌, inl, inr}
@@ -14,9 +14,8 @@ use Rattle.control.specs.Control as control
 use Rattle.control_stores.specs.Stores as control-stores
 use Rattle.control_stores.proofs.AfterStores.{raised_keeps}
 use Rattle.commands.specs.declared.Features.{Features}
-use Rattle.commands.specs.declared.Command.{Command}
 use Rattle.commands.specs.declared.Decoded.TheVariants.{Legal}
-use Rattle.commands.specs.Decoding.{is_counted, syncs_of}
+use Rattle.commands.specs.Decoding.{is_counted}
 use Rattle.memory.specs.Memory.{Memory, control_of}
 use Rattle.memory.proofs.Laws.{Accepts, accepted-whole, control-stored, control-cleared}
 use Rattle.due.specs.Due.{What, Remove, Consume, Raise, after_command}

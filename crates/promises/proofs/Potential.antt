@@ -1,7 +1,7 @@
 -- Used rows and waiting commands: each store of a run takes one off, so a run whose allowance is their sum is never cut.
 -- Assumes nothing.
-use mathlib.Core.Path.{◌≡◌, refl, sym, ap, ◌∙◌}
-use mathlib.Core.Bool.{Bool, true, false, not}
+use mathlib.Core.Path.{◌≡◌, refl}
+use mathlib.Core.Bool.{Bool, true, false}
 use mathlib.Core.List.{List}
 use Prim.Native.Nat.{ℕ, zero, suc, ◌+◌, ◌≤◌, ◌<◌}
 use native.Mathlib.Omega.{arith}
@@ -17,7 +17,7 @@ use Rattle.memory.proofs.Laws.{Accepts, rows_are, accepted-whole, control_formed
 use Rattle.due.specs.Due.{What, Remove, Consume, Raise, after_command}
 use Rattle.due.proofs.Consuming.{after-distance}
 use Rattle.runs.specs.declared.End.TheVariants.{Cut}
-use Rattle.runs.specs.Running.{Out, Next, rests, stores, rested, plus, last, next, run_by, due_in, run}
+use Rattle.runs.specs.Running.{Next, rests, stores, last, next, run_by, due_in, run}
 use Rattle.promises.specs.Sums.{removed_by}
 use Rattle.promises.proofs.Cases.{Case, removes, consumes, raises, IsDue, is_due}
 use Rattle.promises.proofs.Resume.{rest_uncut}

@@ -21,9 +21,9 @@ use Rattle.row_forms.proofs.LastLevel.{room}
 use Rattle.row_forms.proofs.Halves.{stage-formed}
 use Rattle.commands.specs.declared.Features.{Features}
 use Rattle.commands.specs.declared.Target.{Target}
-use Rattle.scopes.specs.Ranges.{address_of, tg_of, first_of, end_of, reaches}
+use Rattle.scopes.specs.Ranges.{address_of, tg_of, first_of, reaches}
 use Rattle.scopes.specs.Scopes.{spared, stage_of, stage_at, own_of, own_at, is_e2h, has_asid, removes, too_wide, in_regime, in_scope}
-use Rattle.scopes.proofs.Laws.{Scoped, scoped, is-scoped}
+use Rattle.scopes.proofs.Laws.{scoped, is-scoped}
 use Rattle.scopes.proofs.Ranges as ranges
 use Rattle.promises.specs.Ranges.{Aim, nh_va, nh_vaa, el2_va, el2_vaa, s2_ipa, aimed_at, pages, single, PageOf}
 

@@ -1,19 +1,17 @@
 -- Demand 3: a run that was cut is taken up where it stopped, whatever says what is due.
 -- Assumes nothing.
 use mathlib.Core.Path.{◌≡◌, refl, sym, ap, ◌∙◌}
-use mathlib.Core.Bool.{Bool, true, false}
 use mathlib.Core.List.{List, [], ◌∷◌}
-use Prim.Native.Nat.{ℕ, zero, suc, ◌+◌, ◌≤◌}
-use native.Mathlib.Nat.{zero-add, add-zero, suc-add}
+use Prim.Native.Nat.{ℕ, zero, suc, ◌+◌}
+use native.Mathlib.Nat.{zero-add, suc-add}
 use native.Mathlib.Omega.{arith}
 use Rattle.control.specs.declared.Rest.{Rest}
 use Rattle.control.specs.declared.Rest.TheVariants.{Off as Rest-as-Off, Held as Rest-as-Held, Empty as Rest-as-Empty}
-use Rattle.due.specs.Due.{What, Remove, Consume, Raise}
+use Rattle.due.specs.Due.{Remove, Consume, Raise}
 use Rattle.due.specs.declared.Raising.{Raising}
-use Rattle.runs.specs.declared.End.{End}
-use Rattle.runs.specs.declared.End.TheVariants.{Off, Held, Empty, Raised, Cut}
-use Rattle.runs.specs.Running.{Out, Next, rests, stores, rested, plus, last, next, run_by, end_of}
-use Rattle.promises.specs.Cuts.{◌then◌, again, AllCut, none, one, total}
+use Rattle.runs.specs.declared.End.TheVariants.{Raised, Cut}
+use Rattle.runs.specs.Running.{Out, Next, rests, stores, plus, last, next, run_by, end_of}
+use Rattle.promises.specs.Cuts.{◌then◌, again, AllCut, one, total}
 use Rattle.runs.proofs.Turns.{plus-plus, plus-zero, run-rests}
 
 -- no rest is a cut

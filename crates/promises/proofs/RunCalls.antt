@@ -3,12 +3,11 @@
 use mathlib.Core.Path.{◌≡◌, refl, sym, ap, ◌∙◌}
 use mathlib.Core.Bool.{Bool, true, false, not}
 use mathlib.Core.List.{List}
-use Prim.Native.Nat.{ℕ, zero, suc, ◌<◌}
+use Prim.Native.Nat.{ℕ, zero, suc}
 use native.Mathlib.Omega.{arith}
 use Rattle.words.specs.Choice.{pick}
 use Rattle.words.specs.Outcomes.{Outcome}
 use Rattle.control.specs.Control as control
-use Rattle.control.specs.declared.Rest.{Rest}
 use Rattle.control.proofs.Openness.{open-enabled, open-quiet}
 use Rattle.control_stores.specs.Stores as control-stores
 use Rattle.control_stores.proofs.AfterStores.{raised_keeps, raised-active, raised-err}
@@ -22,7 +21,7 @@ use Rattle.due.specs.Due.{What, Remove, Consume, Raise, raising_at}
 use Rattle.runs.specs.declared.End.TheVariants.{Held, Raised}
 use Rattle.runs.specs.declared.RunRefusal.TheVariants.{BadQueue}
 use Rattle.runs.specs.declared.RunAnswer.{RunAnswer}
-use Rattle.runs.specs.Running.{Out, Next, rests, stores, rested, last, next, run_by, due_in, run, end_of}
+use Rattle.runs.specs.Running.{Next, rests, stores, rested, last, next, run_by, due_in, run}
 use Rattle.runs.specs.Call.{queue_good, refused, done, call}
 use Rattle.runs.proofs.Calling.{goes_through, Answered, no, yes, answered}
 use Rattle.promises.specs.Tells.{Tells}

@@ -1,14 +1,13 @@
 -- Document 01, One run: how the counts add up, and what Cut means, whatever says what is due.
 -- Assumes nothing.
-use mathlib.Core.Path.{◌≡◌, refl, sym, ap, ◌∙◌}
-use Prim.Native.Nat.{ℕ, zero, suc, ◌+◌, ◌≤◌, ◌<◌}
+use mathlib.Core.Path.{◌≡◌, refl}
+use Prim.Native.Nat.{ℕ, zero, suc, ◌+◌, ◌≤◌}
 use native.Mathlib.Omega.{arith}
 use Rattle.control.specs.declared.Rest.{Rest}
 use Rattle.control.specs.declared.Rest.TheVariants.{Off as Rest-as-Off, Held as Rest-as-Held, Empty as Rest-as-Empty}
 use Rattle.due.specs.Due.{What, Remove, Consume, Raise}
-use Rattle.runs.specs.declared.End.{End}
-use Rattle.runs.specs.declared.End.TheVariants.{Off, Held, Empty, Raised, Cut}
-use Rattle.runs.specs.Running.{Out, Next, rests, stores, rested, plus, last, next, run_by, end_of}
+use Rattle.runs.specs.declared.End.TheVariants.{Cut}
+use Rattle.runs.specs.Running.{Out, Next, rests, stores, plus, last, next, run_by, end_of}
 use Rattle.promises.specs.Sums.{raise}
 use Rattle.promises.specs.Ends.{Spent}
 use Rattle.promises.proofs.Resume.{rest_uncut}

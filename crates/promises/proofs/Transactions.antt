@@ -1,6 +1,6 @@
 -- Demands 2 and 3, of transactions: a half-filled row is not seen, and a row that a consumed command removed answers no more.
 -- Assumes nothing.
-use mathlib.Core.Path.{◌≡◌, refl, sym, ap, ◌∙◌}
+use mathlib.Core.Path.{◌≡◌, ap}
 use mathlib.Core.Bool.{false}
 use mathlib.Core.List.{List}
 use mathlib.Core.Logic.{inl, inr}

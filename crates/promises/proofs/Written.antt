@@ -1,14 +1,13 @@
 -- Document 02, T-10: after a batch, what waited still waits, then exactly the commands asked for; and a run with the writer's features and
 -- allowance enough consumes them all.
 -- Assumes nothing.
-use mathlib.Core.Path.{◌≡◌, refl, sym, ap, ◌∙◌}
-use mathlib.Core.Bool.{true, false}
+use mathlib.Core.Path.{◌≡◌, sym, ap, ◌∙◌}
 use mathlib.Core.List.{List}
 use mathlib.Core.Logic.{⊎_elim}
 use Prim.Native.Nat.{ℕ, ◌+◌, ◌-◌, ◌*◌, ◌%◌, ◌^◌, ◌≤◌, ◌<◌}
 use native.Mathlib.Nat.{add_comm}
 use native.Mathlib.Omega.{arith}
-use lib.ListN.{length, take, drop, set, length-drop}
+use lib.ListN.{length, drop, length-drop}
 use lib.Seq.{length-take-le}
 use borrow.Author.Tests.{eq-eqb}
 use Rattle.words.specs.Outcomes.{Outcome, with}
@@ -20,25 +19,22 @@ use Rattle.control.proofs.Formed as control_formed
 use Rattle.control.proofs.Formed.{Formed}
 use Rattle.control_stores.proofs.AfterStores.{same-active}
 use Rattle.commands.specs.declared.Features.{Features}
-use Rattle.commands.specs.declared.Decoded.{Decoded}
-use Rattle.commands.specs.declared.Decoded.TheVariants.{Legal}
 use Rattle.commands.specs.Decoding.{decode, decode_at, is_illegal}
 use Rattle.memory.specs.Memory.{Memory, both, control_of, used_rows, stored}
 use Rattle.memory.proofs.Laws as memory
 use Rattle.memory.proofs.Laws.{Accepts}
-use Rattle.runs.specs.declared.End.TheVariants.{Empty}
 use Rattle.runs.specs.Running.{run}
-use Rattle.runs.specs.Call.{done, call}
+use Rattle.runs.specs.Call.{call}
 use Rattle.runs.proofs.Calling.{goes_through}
 use Rattle.writer.specs.declared.Coded.{Coded}
-use Rattle.writer.specs.Layouts.{wide, fields_of}
-use Rattle.writer.specs.Writing.{encoded, split, slot_size}
+use Rattle.writer.specs.Layouts.{wide}
+use Rattle.writer.specs.Writing.{slot_size}
 use Rattle.writer.proofs.RoundTrip.{reads_back, coded_as}
 use Rattle.batch_writes.specs.declared.BatchAnswer.{BatchAnswer}
 use Rattle.batch_writes.specs.declared.BatchAnswer.TheVariants.{Rung}
 use Rattle.batch_writes.specs.Batch.{Lent, lent, words_of, commands_in, slot_at, placed, moved_on, write_batch}
 use Rattle.batch_writes.proofs.Judging.{each_fits}
-use Rattle.batch_writes.proofs.Placed.{slot_inside, placed-length}
+use Rattle.batch_writes.proofs.Placed.{placed-length}
 use Rattle.control_calls.specs.declared.DoorbellAnswer.TheVariants.{Rung as DidRing}
 use Rattle.control_calls.specs.Calls.{doorbell}
 use Rattle.control_calls.proofs.Cases.{doorbell-rings}

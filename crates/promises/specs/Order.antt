@@ -1,7 +1,7 @@
 -- Document 01, One run: the stores of a run, one after the other.
 -- Assumes nothing.
 use Rattle.std.specs.Prelude.{List, [], ◌∷◌, ℕ, zero, suc}
-use Rattle.due.specs.Due.{What, Remove, Consume, Raise}
+use Rattle.due.specs.Due.{Remove, Consume, Raise}
 use Rattle.runs.specs.Running.{Next, rests, stores}
 
 abbrev pub passed_next : {M : Type 0} → (M → List M) → Next M → List M

@@ -1,7 +1,6 @@
 -- Demand 2: what a legal command leaves, word by word.
 -- Assumes nothing.
 use Rattle.std.specs.Prelude.{◌≡◌, true, false, List, ℕ, suc, ◌+◌, ◌<◌}
-use Rattle.words.specs.Search.{count}
 use Rattle.commands.specs.declared.Features.{Features}
 use Rattle.commands.specs.declared.Command.{Command}
 use Rattle.commands.specs.declared.Decoded.TheVariants.{Legal}
