@@ -1,6 +1,6 @@
 -- The C interface: what a caller is told, 0 or the refusal's number, and eight words, zero but for those named.
 -- Assumes nothing.
-use Rattle.std.specs.Prelude.{Bool, List, [], ◌∷◌, ℕ}
+use Rattle.std.specs.Prelude.{Bool, [], ◌∷◌, ℕ}
 use Rattle.words.specs.Choice.{pick}
 use Rattle.image.specs.declared.Refusal.{Refusal}
 use Rattle.image.specs.declared.Refusal.TheVariants.{BadLength, BadControl, BadRow}

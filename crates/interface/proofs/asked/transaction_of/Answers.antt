@@ -1,7 +1,6 @@
 -- `interface::asked::transaction_of` meets its contract.
 -- Assumes nothing.
 use Rattle.interface.specs.Asked.{transaction_of}
-use borrow.Author.Rules.{rules}
 use Rattle.interface.proofs.asked.transaction_of.Goals as goal
 
 pub returns : goal.returns
