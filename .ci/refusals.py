@@ -14,7 +14,7 @@ import re
 OTHER_REASONS = [
     (r'has no `', 'the proof file does not fit the edited code'),
     (r'has no field', 'the proof file does not fit the edited code'),
-    (r'expected type `(goal\.|(\S+\.)?(Goals|Lts)\.(After|Start))', 'the proof file does not fit the edited code'),
+    (r'expected type `(goal\.(?!the-)|(\S+\.)?(Goals|Lts)\.(After|Start))', 'the proof file does not fit the edited code'),
     (r'(is )?not in scope|unknown-name|cannot find', 'a name is missing'),
     (r'[Pp]arse|syntax|is neither', 'the edited file does not parse'),
 ]

@@ -51,6 +51,7 @@ def logs():
     expect('a failed fact in several lines', refusals.reason(at + '`returns`: the two types differ where one has `a`\n  (expected) and the other `c` (found)\n  expected type `a ≡ b`, but this has type `c ≡ b`\n') is None)
     expect('a failed sum', refusals.reason(at + '`overflow_add-i`: `omega`: the goal does not follow from what it read\n') is None)
     expect('a fact that the search leaves', refusals.reason(at + '`f-spec`: `close` was not admitted\n' + left) is None)
+    expect('an invariant that a turn does not keep', refusals.reason(at + '`loop-i-preserved`: expected type `goal.the-invariant-loop-i`, but this has type `b`\n') is None)
     expect('a law', refusals.reason('./proofs/A.antt:1:2: error: `low`: expected type `a`, but this has type `b`\n./proofs/A.antt:3:4: error: 3 declarations that depend on `low`, which was rejected, were not checked: x\n') is None)
     for log in [
         '',
@@ -59,8 +60,8 @@ def logs():
         at + '`f-spec`: expected type `goal.After-shl`, but this has type `goal.returns`\n',
         at + '`at`: the two types differ where one has `Lts.After-i`\n  (expected) and the other `Lts.After-k` (found)\n  expected type `Rattle.c.proofs.f.Lts.After-i`, but this has type `Lts.After-k`\n',
         at + 'module `Rattle.c.proofs.f` has no `Goals` that can be named from here\n',
-        at + '`returns`: record `Rattle.c.proofs.f.Lts.After-wr-of` has no field `rd-of`\n',
-        at + '`returns`: record `Rattle.c.proofs.f.Lts.After-wr-of`\n  has no field `rd-of`\n',
+        at + '`returns`: record `Rattle.c.proofs.f.Lts.After-wr` has no field `rd`\n',
+        at + '`returns`: record `Rattle.c.proofs.f.Lts.After-wr`\n  has no field `rd`\n',
         'src/lib.rt:1:2: error[unknown-name]: cannot find value `x` in this scope\n' + left,
         './specs/A.antt:1:2: error: `f`: `g` is not in scope\n' + left,
         './specs/A.antt:1:2: error: Parse: unexpected\n' + left,
