@@ -38,6 +38,32 @@ pub fn put(w: u64, h: u64, l: u64, v: u64) -> u64
     w / top / 2 * 2 * top + (v % power(h + 1 - l) * power(l) + w % power(l))
 }
 
+// Bits of a word, from a highest down to a lowest, and fewer than 64.
+#[derive(Clone, Copy)]
+pub struct BitField {
+    pub high: u64,
+    pub low: u64,
+    pub ghost ordered: { low ≤ high },
+    pub ghost in_word: { high < 64 },
+    pub ghost narrower: { high < low + 63 },
+}
+
+impl BitField {
+    // The number in these bits of w.
+    pub fn of(self, w: u64) -> u64
+        ensures { result ≡ part self.high self.low w }
+    {
+        part(w, self.high, self.low)
+    }
+
+    // The word w with v in these bits.
+    pub fn put(self, w: u64, v: u64) -> u64
+        ensures { result ≡ put self.high self.low v w }
+    {
+        put(w, self.high, self.low, v)
+    }
+}
+
 // Whether the n numbers from a on and the k from b on share one, by the distance of a and b: an end may be 2^64.
 pub fn overlap(a: u64, n: u64, b: u64, k: u64) -> bool
     requires { (0 < n) × (0 < k) }
