@@ -13,8 +13,7 @@ use Rattle.words.proofs.Outcomes.{gives}
 use Rattle.control.specs.Control.{log2size}
 use Rattle.commands.specs.declared.Features.{Features}
 use Rattle.image.specs.declared.Refusal.{Refusal}
-use Rattle.image.specs.declared.Checked.{Checked}
-use Rattle.image.specs.declared.Checked.TheVariants.{Accepted, Refused}
+use Rattle.std.specs.Prelude.{Err, Ok, Result}
 use Rattle.image.specs.Image.{control_of, check}
 use Rattle.image.proofs.Checks.{says}
 use Rattle.writer.specs.declared.Fault.{Fault}
@@ -23,17 +22,16 @@ use Rattle.writer.specs.Writing.{slot_size}
 use Rattle.batch_writes.specs.declared.Judged.{Judged}
 use Rattle.batch_writes.specs.declared.Judged.TheVariants.{AllFit, Bad}
 use Rattle.batch_writes.specs.declared.BatchRefusal.TheVariants.{Image, BadQueue, BadCommand, NoRoom}
-use Rattle.batch_writes.specs.declared.BatchAnswer.TheVariants.{Refused as NotRung, Rung}
 use Rattle.batch_writes.specs.Batch.{lent, commands_in, judged_from, free_in, placed, moved_on, write_batch}
 use Rattle.batch_writes.proofs.Judging.{none-short}
 use Rattle.batch_writes.proofs.Placed.{few-slots}
 
-module _ (f : Features) (ws kept queue : List ℕ) (k : Checked) (checked : k ≡ check kept) where
-  pub refuses-image : (why : Refusal) → k ≡ Refused why → Gives (write_batch f ws (lent kept queue)) (lent kept queue) (NotRung (Image why))
+module _ (f : Features) (ws kept queue : List ℕ) (k : Result ℕ Refusal) (checked : k ≡ check kept) where
+  pub refuses-image : (why : Refusal) → k ≡ Err why → Gives (write_batch f ws (lent kept queue)) (lent kept queue) (Err (Image why))
   unfolding write_batch
   refuses-image why e = gives (rw (← checked, e))
 
-  module _ (rows : ℕ) (accepted : k ≡ Accepted rows) where
+  module _ (rows : ℕ) (accepted : k ≡ Ok rows) where
     pub some_words : 0 < length kept
     some_words = omega (arith, ((says kept).accepted rows (sym checked ∙ accepted)).size.words)
 
@@ -41,7 +39,7 @@ module _ (f : Features) (ws kept queue : List ℕ) (k : Checked) (checked : k �
     w = control_of kept
 
     module _ (b : Bool) (tested : b ≡ eqb (length queue) (slot_size * 2 ^ log2size w)) where
-      pub refuses-queue : not b ≡ true → Gives (write_batch f ws (lent kept queue)) (lent kept queue) (NotRung BadQueue)
+      pub refuses-queue : not b ≡ true → Gives (write_batch f ws (lent kept queue)) (lent kept queue) (Err BadQueue)
       unfolding write_batch
       refuses-queue e = gives (rw (← checked, accepted, ← tested, e))
 
@@ -49,12 +47,12 @@ module _ (f : Features) (ws kept queue : List ℕ) (k : Checked) (checked : k �
         pub long-queue : length queue ≡ slot_size * 2 ^ log2size w
         long-queue = eqb-true (length queue) (slot_size * 2 ^ log2size w) (sym tested ∙ not-false b good)
 
-        pub refuses-command : (i : ℕ) (why : Fault) → j ≡ Bad i why → Gives (write_batch f ws (lent kept queue)) (lent kept queue) (NotRung (BadCommand i why))
+        pub refuses-command : (i : ℕ) (why : Fault) → j ≡ Bad i why → Gives (write_batch f ws (lent kept queue)) (lent kept queue) (Err (BadCommand i why))
         unfolding write_batch
         refuses-command i why e = gives (rw (← checked, accepted, ← tested, good, ← counted, ← judging, e))
 
         module _ (fine : j ≡ AllFit) (s : ℕ) (room : s ≡ free_in w) where
-          pub refuses-room : s < n → Gives (write_batch f ws (lent kept queue)) (lent kept queue) (NotRung NoRoom)
+          pub refuses-room : s < n → Gives (write_batch f ws (lent kept queue)) (lent kept queue) (Err NoRoom)
           unfolding write_batch
           refuses-room h =
               let full : ltb (free_in w) n ≡ true = rw (← room) (lt-ltb s n h) in
@@ -68,7 +66,7 @@ module _ (f : Features) (ws kept queue : List ℕ) (k : Checked) (checked : k �
             all_there = rw counted (none-short f ws (ap (λ (x : ℕ). judged_from f ws x 0) (sym counted) ∙ sym judging ∙ fine))
 
             pub rings-last : (q' kept' : List ℕ) → q' ≡ placed ws w queue n → kept' ≡ set kept 0 (moved_on w n)
-                → Gives (write_batch f ws (lent kept queue)) (lent kept' q') Rung
+                → Gives (write_batch f ws (lent kept queue)) (lent kept' q') (Ok tt)
             unfolding write_batch
             rings-last q' kept' p r =
                 let free : ltb (free_in w) n ≡ false = rw (← room) (le-ltb s n fits) in

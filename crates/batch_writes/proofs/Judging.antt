@@ -15,8 +15,7 @@ use Rattle.commands.specs.declared.Features.{Features}
 use Rattle.writer.specs.declared.Coded.{Coded}
 use Rattle.writer.specs.declared.Fault.{Fault}
 use Rattle.writer.specs.declared.Fault.TheVariants.{Unfit}
-use Rattle.writer.specs.declared.Verdict.{Verdict}
-use Rattle.writer.specs.declared.Verdict.TheVariants.{Fit, Faulty}
+use Rattle.std.specs.Prelude.{Err, Ok, Result}
 use Rattle.writer.specs.Layouts.{wide}
 use Rattle.writer.specs.Writing.{judged}
 use Rattle.batch_writes.specs.declared.Judged.TheVariants.{AllFit, Bad}
@@ -42,11 +41,11 @@ module _ (ws : List ℕ) where
       by_test false l = omega arith
 
 module _ (f : Features) (ws : List ℕ) where
-  pub broken : (i : ℕ) → length ws - wide * i < wide → wide * i ≤ length ws → Faulty Unfit ≡ judged_at f ws i
+  pub broken : (i : ℕ) → length ws - wide * i < wide → wide * i ≤ length ws → Err Unfit ≡ judged_at f ws i
   unfolding judged_at
   broken i short has = rw (lt-leb (wide * i + wide) (length ws) (omega arith))
 
-  pub whole : (i : ℕ) (v : Verdict) → wide ≤ length ws - wide * i → wide * i ≤ length ws
+  pub whole : (i : ℕ) (v : Result Coded Fault) → wide ≤ length ws - wide * i → wide * i ≤ length ws
       → v ≡ judged f (take (wide * i + wide - wide * i) (drop (wide * i) ws)) → v ≡ judged_at f ws i
   unfolding judged_at
   whole i v long has e =
@@ -67,15 +66,15 @@ module _ (f : Features) (ws : List ℕ) where
       unfolding judged_from
       more h = let e : n - i ≡ suc (n - (i + 1)) = omega arith in rw (e, add-one i)
 
-      pub finds : (v : Verdict) (why : Fault) → i < n → v ≡ judged_at f ws i → v ≡ Faulty why → Bad i why ≡ judged_from f ws n 0
+      pub finds : (v : Result Coded Fault) (why : Fault) → i < n → v ≡ judged_at f ws i → v ≡ Err why → Bad i why ≡ judged_from f ws n 0
       finds v why h e is =
-          sym (sym now.so_far ∙ more h ∙ ap (λ (x : Verdict). or_later i x (judged_from f ws (n - (i + 1)) (i + 1))) (sym e ∙ is))
+          sym (sym now.so_far ∙ more h ∙ ap (λ (x : Result Coded Fault). or_later i x (judged_from f ws (n - (i + 1)) (i + 1))) (sym e ∙ is))
 
-      pub continues : (v : Verdict) (c : Coded) → i < n → v ≡ judged_at f ws i → v ≡ Fit c → Looking n (i + 1)
+      pub continues : (v : Result Coded Fault) (c : Coded) → i < n → v ≡ judged_at f ws i → v ≡ Ok c → Looking n (i + 1)
       continues v c h e is =
           record {
             within = omega arith;
-            so_far = sym (more h ∙ ap (λ (x : Verdict). or_later i x (judged_from f ws (n - (i + 1)) (i + 1))) (sym e ∙ is)) ∙ now.so_far;
+            so_far = sym (more h ∙ ap (λ (x : Result Coded Fault). or_later i x (judged_from f ws (n - (i + 1)) (i + 1))) (sym e ∙ is)) ∙ now.so_far;
           }
 
       pub ends : n ≤ i → AllFit ≡ judged_from f ws n 0
@@ -86,13 +85,13 @@ module _ (f : Features) (ws : List ℕ) where
   pub record FitAt (i : ℕ) : Type 0 where
     pub has : wide * i + wide ≤ length ws
     pub coded : Coded
-    pub fit : judged f (words_of ws i) ≡ Fit coded
+    pub fit : judged f (words_of ws i) ≡ Ok coded
 
-  fit_at : (i : ℕ) (c : Coded) → judged_at f ws i ≡ Fit c → FitAt i
+  fit_at : (i : ℕ) (c : Coded) → judged_at f ws i ≡ Ok c → FitAt i
   unfolding judged_at
   fit_at i c e = by_test (leb (wide * i + wide) (length ws)) refl e
     where
-      by_test : (b : Bool) → leb (wide * i + wide) (length ws) ≡ b → pick b (judged f (words_of ws i)) (Faulty Unfit) ≡ Fit c → FitAt i
+      by_test : (b : Bool) → leb (wide * i + wide) (length ws) ≡ b → pick b (judged f (words_of ws i)) (Err Unfit) ≡ Ok c → FitAt i
       by_test true p q = record { has = leb-true (wide * i + wide) (length ws) p; coded = c; fit = q }
       by_test false p q = let z : ◌≡◌ {A = ℕ} 0 1 = cc in absurd (omega arith)
 
@@ -102,11 +101,11 @@ module _ (f : Features) (ws : List ℕ) where
   from-fit zero i e k h = absurd (omega arith)
   from-fit (suc n) i e k h = verdict_case (judged_at f ws i) refl e k h (from-fit n (suc i))
     where
-      verdict_case : (v : Verdict) → judged_at f ws i ≡ v → or_later i v (judged_from f ws n (suc i)) ≡ AllFit → (k : ℕ) → k < suc n
+      verdict_case : (v : Result Coded Fault) → judged_at f ws i ≡ v → or_later i v (judged_from f ws n (suc i)) ≡ AllFit → (k : ℕ) → k < suc n
           → (judged_from f ws n (suc i) ≡ AllFit → (j : ℕ) → j < n → FitAt (suc i + j)) → FitAt (i + k)
-      verdict_case (Faulty why) p q k l later = let z : ◌≡◌ {A = ℕ} 0 1 = cc in absurd (omega arith)
-      verdict_case (Fit c) p q zero l later = rw add-zero (fit_at i c p)
-      verdict_case (Fit c) p q (suc j) l later = rw (add-suc, ← suc-add) (later q j (omega arith))
+      verdict_case (Err why) p q k l later = let z : ◌≡◌ {A = ℕ} 0 1 = cc in absurd (omega arith)
+      verdict_case (Ok c) p q zero l later = rw add-zero (fit_at i c p)
+      verdict_case (Ok c) p q (suc j) l later = rw (add-suc, ← suc-add) (later q j (omega arith))
 
   pub each_fits : (n : ℕ) → judged_from f ws n 0 ≡ AllFit → (i : ℕ) → i < n → FitAt i
   each_fits n e i h = rw zero-add at (from-fit n 0 e i h)

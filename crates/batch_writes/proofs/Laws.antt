@@ -26,8 +26,8 @@ use Rattle.control_stores.specs.Stores.{may_ring}
 use Rattle.control_stores.proofs.AfterStores.{rung-keeps, rung-sets, rung-formed}
 use Rattle.commands.specs.declared.Features.{Features}
 use Rattle.commands.specs.Decoding.{decode, decode_at}
-use Rattle.image.specs.declared.Checked.{Checked}
-use Rattle.image.specs.declared.Checked.TheVariants.{Accepted, Refused as NotAccepted}
+use Rattle.std.specs.Prelude.{Err, Ok, Result, ⊤}
+use Rattle.image.specs.declared.Refusal.{Refusal}
 use Rattle.image.specs.Image.{control_of, check}
 use Rattle.image.proofs.Checks.{Accepts, says}
 use Rattle.image.proofs.AfterStores.{control-stored}
@@ -39,8 +39,6 @@ use Rattle.batch_writes.specs.declared.Judged.{Judged}
 use Rattle.batch_writes.specs.declared.Judged.TheVariants.{AllFit, Bad}
 use Rattle.batch_writes.specs.declared.BatchRefusal.{BatchRefusal}
 use Rattle.batch_writes.specs.declared.BatchRefusal.TheVariants.{Image, BadQueue, BadCommand, NoRoom}
-use Rattle.batch_writes.specs.declared.BatchAnswer.{BatchAnswer}
-use Rattle.batch_writes.specs.declared.BatchAnswer.TheVariants.{Refused, Rung}
 use Rattle.batch_writes.specs.Batch.{Lent, lent, words_of, commands_in, judged_from, free_in, slot_at, placed, moved_on, refused, write_batch}
 use Rattle.batch_writes.proofs.Placed.{slot_inside, placed-length}
 
@@ -142,7 +140,7 @@ pub record Rings (f : Features) (ws : List ℕ) (m : Lent) : Type 0 where
   pub long : length m.queue ≡ slot_size * indexes.slots (control.log2size (control_of m.kept))
   pub all_fit : judged_from f ws (commands_in ws) 0 ≡ AllFit
   pub room : commands_in ws ≤ free_in (control_of m.kept)
-  pub leaves : write_batch f ws m ≡ with Rung (lent (set m.kept 0 (moved_on (control_of m.kept) (commands_in ws))) (placed ws (control_of m.kept) m.queue (commands_in ws)))
+  pub leaves : write_batch f ws m ≡ with (Ok tt) (lent (set m.kept 0 (moved_on (control_of m.kept) (commands_in ws))) (placed ws (control_of m.kept) m.queue (commands_in ws)))
 
 pub data Way (f : Features) (ws : List ℕ) (m : Lent) : Type 0 where
   stops : (why : BatchRefusal) → write_batch f ws m ≡ refused why m → Way f ws m
@@ -156,7 +154,7 @@ module _ (f : Features) (ws : List ℕ) (m : Lent) where
   unfolding write_batch
   way = by_check (check m.kept) refl
     where
-      by_room : (rows : ℕ) → check m.kept ≡ Accepted rows → eqb (length m.queue) (slot_size * indexes.slots (control.log2size x)) ≡ true
+      by_room : (rows : ℕ) → check m.kept ≡ Ok rows → eqb (length m.queue) (slot_size * indexes.slots (control.log2size x)) ≡ true
           → judged_from f ws (commands_in ws) 0 ≡ AllFit → (b : Bool) → ltb (free_in x) (commands_in ws) ≡ b → Way f ws m
       by_room rows e q j true b = stops NoRoom (rw (e, q, j, b))
       by_room rows e q j false b =
@@ -170,32 +168,32 @@ module _ (f : Features) (ws : List ℕ) (m : Lent) where
             leaves = rw (e, q, j, b);
           })
 
-      by_commands : (rows : ℕ) → check m.kept ≡ Accepted rows → eqb (length m.queue) (slot_size * indexes.slots (control.log2size x)) ≡ true
+      by_commands : (rows : ℕ) → check m.kept ≡ Ok rows → eqb (length m.queue) (slot_size * indexes.slots (control.log2size x)) ≡ true
           → (j : Judged) → judged_from f ws (commands_in ws) 0 ≡ j → Way f ws m
       by_commands rows e q (Bad i why) j = stops (BadCommand i why) (rw (e, q, j))
       by_commands rows e q AllFit j = by_room rows e q j (ltb (free_in x) (commands_in ws)) refl
 
-      by_queue : (rows : ℕ) → check m.kept ≡ Accepted rows → (b : Bool) → eqb (length m.queue) (slot_size * indexes.slots (control.log2size x)) ≡ b → Way f ws m
+      by_queue : (rows : ℕ) → check m.kept ≡ Ok rows → (b : Bool) → eqb (length m.queue) (slot_size * indexes.slots (control.log2size x)) ≡ b → Way f ws m
       by_queue rows e false q = stops BadQueue (rw (e, q))
       by_queue rows e true q = by_commands rows e q (judged_from f ws (commands_in ws) 0) refl
 
-      by_check : (k : Checked) → check m.kept ≡ k → Way f ws m
-      by_check (NotAccepted why) e = stops (Image why) (rw e)
-      by_check (Accepted rows) e = by_queue rows e (eqb (length m.queue) (slot_size * indexes.slots (control.log2size x))) refl
+      by_check : (k : Result ℕ Refusal) → check m.kept ≡ k → Way f ws m
+      by_check (Err why) e = stops (Image why) (rw e)
+      by_check (Ok rows) e = by_queue rows e (eqb (length m.queue) (slot_size * indexes.slots (control.log2size x))) refl
 
   -- on a refusal nothing is written
-  pub refusal_writes_nothing : (why : BatchRefusal) → (write_batch f ws m).answer ≡ Refused why → (write_batch f ws m).memory ≡ m
+  pub refusal_writes_nothing : (why : BatchRefusal) → (write_batch f ws m).answer ≡ Err why → (write_batch f ws m).memory ≡ m
   refusal_writes_nothing why e = by_way way
     where
       by_way : Way f ws m → (write_batch f ws m).memory ≡ m
       by_way (stops other s) = rw s
-      by_way (rings r) = let z : ◌≡◌ {A = ℕ} 0 1 = cc (ap (λ (o : Outcome Lent BatchAnswer). o.answer) r.leaves) in absurd (omega arith)
+      by_way (rings r) = let z : ◌≡◌ {A = ℕ} 0 1 = cc (ap (λ (o : Outcome Lent (Result ⊤ BatchRefusal)). o.answer) r.leaves) in absurd (omega arith)
 
-  pub rung-rings : (write_batch f ws m).answer ≡ Rung → Rings f ws m
+  pub rung-rings : (write_batch f ws m).answer ≡ Ok tt → Rings f ws m
   rung-rings e = by_way way
     where
       by_way : Way f ws m → Rings f ws m
-      by_way (stops other s) = let z : ◌≡◌ {A = ℕ} 0 1 = cc (ap (λ (o : Outcome Lent BatchAnswer). o.answer) s) in absurd (omega arith)
+      by_way (stops other s) = let z : ◌≡◌ {A = ℕ} 0 1 = cc (ap (λ (o : Outcome Lent (Result ⊤ BatchRefusal)). o.answer) s) in absurd (omega arith)
       by_way (rings r) = r
 
   -- an accepted image stays one
@@ -209,8 +207,8 @@ module _ (f : Features) (ws : List ℕ) (m : Lent) where
           rw r.leaves (control-stored m.kept n a (moved_on x (commands_in ws)) (control_formed.is_formed (moved_on x (commands_in ws)) (moved-formed x (commands_in ws) formed r.room)))
 
   -- rung, every byte outside the slots written is as it was
-  pub others_stay : (write_batch f ws m).answer ≡ Rung → (k : ℕ)
+  pub others_stay : (write_batch f ws m).answer ≡ Ok tt → (k : ℕ)
       → ((i : ℕ) → i < commands_in ws → (k < slot_size * slot_at (control_of m.kept) i) ⊎ (slot_size * slot_at (control_of m.kept) i + slot_size ≤ k))
       → get_or (write_batch f ws m).memory.queue k 0 ≡ get_or m.queue k 0
   others_stay e k apart =
-      ap (λ (o : Outcome Lent BatchAnswer). get_or o.memory.queue k 0) (rung-rings e).leaves ∙ placed-others f ws x m.queue (commands_in ws) k apart
+      ap (λ (o : Outcome Lent (Result ⊤ BatchRefusal)). get_or o.memory.queue k 0) (rung-rings e).leaves ∙ placed-others f ws x m.queue (commands_in ws) k apart

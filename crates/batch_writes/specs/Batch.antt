@@ -1,7 +1,7 @@
 -- Document 02, T-10: several commands written into free slots, and then the doorbell. Refusals 1 to 4, then 20 or 21 of the first bad
 -- command, then 22.
 -- Assumes nothing.
-use Rattle.std.specs.Prelude.{not, List, ℕ, zero, suc, ◌+◌, ◌-◌, ◌*◌, ◌/◌, ◌%◌, ◌^◌, eqb, leb, ltb, length, take, drop, set}
+use Rattle.std.specs.Prelude.{not, List, ℕ, zero, suc, ◌+◌, ◌-◌, ◌*◌, ◌/◌, ◌%◌, ◌^◌, eqb, leb, ltb, length, take, drop, set, Err, Ok, Result, ⊤}
 use Rattle.words.specs.Choice.{pick}
 use Rattle.words.specs.Outcomes.{Outcome, with}
 use Rattle.indexes.specs.Indexes as indexes
@@ -10,16 +10,14 @@ use Rattle.control_stores.specs.Stores.{rung}
 use Rattle.commands.specs.declared.Features.{Features}
 use Rattle.image.specs.Image as image
 use Rattle.writer.specs.declared.Fault.TheVariants.{Unfit}
-use Rattle.writer.specs.declared.Verdict.{Verdict}
-use Rattle.writer.specs.declared.Verdict.TheVariants.{Fit, Faulty}
+use Rattle.writer.specs.declared.Coded.{Coded}
+use Rattle.writer.specs.declared.Fault.{Fault}
 use Rattle.writer.specs.Layouts.{wide}
 use Rattle.writer.specs.Writing.{encoded, split, judged, fault_number, slot_size, with_command}
 use Rattle.batch_writes.specs.declared.Judged.{Judged}
 use Rattle.batch_writes.specs.declared.Judged.TheVariants.{AllFit, Bad}
 use Rattle.batch_writes.specs.declared.BatchRefusal.{BatchRefusal}
 use Rattle.batch_writes.specs.declared.BatchRefusal.TheVariants.{Image, BadQueue, BadCommand, NoRoom}
-use Rattle.batch_writes.specs.declared.BatchAnswer.{BatchAnswer}
-use Rattle.batch_writes.specs.declared.BatchAnswer.TheVariants.{Refused, Rung}
 
 -- what is lent: the kept memory, and the queue
 pub record Lent : Type 0 where
@@ -37,13 +35,13 @@ unfoldable pub commands_in : List ℕ → ℕ
 commands_in ws = length ws / wide + pick (eqb (length ws % wide) 0) 0 1
 
 -- one that is not whole does not fit
-unfoldable pub judged_at : Features → List ℕ → ℕ → Verdict
-judged_at f ws i = pick (leb (wide * i + wide) (length ws)) (judged f (words_of ws i)) (Faulty Unfit)
+unfoldable pub judged_at : Features → List ℕ → ℕ → Result Coded Fault
+judged_at f ws i = pick (leb (wide * i + wide) (length ws)) (judged f (words_of ws i)) (Err Unfit)
 
 -- the first bad one of the n commands from i on
-abbrev pub or_later : ℕ → Verdict → Judged → Judged
-or_later i (Faulty why) later = Bad i why
-or_later i (Fit c) later = later
+abbrev pub or_later : ℕ → Result Coded Fault → Judged → Judged
+or_later i (Err why) later = Bad i why
+or_later i (Ok c) later = later
 
 unfoldable pub judged_from : Features → List ℕ → ℕ → ℕ → Judged
 judged_from f ws zero i = AllFit
@@ -72,14 +70,14 @@ number BadQueue = 4
 number (BadCommand i why) = fault_number why
 number NoRoom = 22
 
-abbrev pub refused : BatchRefusal → Lent → Outcome Lent BatchAnswer
-refused why m = with (Refused why) m
+abbrev pub refused : BatchRefusal → Lent → Outcome Lent (Result ⊤ BatchRefusal)
+refused why m = with (Err why) m
 
-abbrev pub by_judged : Judged → Lent → Outcome Lent BatchAnswer → Outcome Lent BatchAnswer
+abbrev pub by_judged : Judged → Lent → Outcome Lent (Result ⊤ BatchRefusal) → Outcome Lent (Result ⊤ BatchRefusal)
 by_judged (Bad i why) m next = refused (BadCommand i why) m
 by_judged AllFit m next = next
 
-unfoldable pub write_batch : Features → List ℕ → Lent → Outcome Lent BatchAnswer
+unfoldable pub write_batch : Features → List ℕ → Lent → Outcome Lent (Result ⊤ BatchRefusal)
 write_batch f ws m =
     let w = image.control_of m.kept in
     let n = commands_in ws in
@@ -87,4 +85,4 @@ write_batch f ws m =
     (λ rows. pick (not (eqb (length m.queue) (slot_size * 2 ^ control.log2size w))) (refused BadQueue m)
     (by_judged (judged_from f ws n 0) m
     (pick (ltb (free_in w) n) (refused NoRoom m)
-    (with Rung (lent (set m.kept 0 (moved_on w n)) (placed ws w m.queue n))))))
+    (with (Ok tt) (lent (set m.kept 0 (moved_on w n)) (placed ws w m.queue n))))))

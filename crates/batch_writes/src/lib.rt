@@ -9,8 +9,8 @@ ghost use Rattle.writer.specs.Layouts.{wide};
 ghost use Rattle.batch_writes.specs.Batch.{lent, commands_in, judged_at, judged_from, free_in, moved_on, write_batch};
 
 use commands::Features;
-use image::{Checked, Refusal};
-use writer::{Fault, Verdict};
+use image::Refusal;
+use writer::{Coded, Fault};
 
 // The first bad command, or none.
 #[derive(Clone, Copy)]
@@ -28,10 +28,12 @@ pub enum BatchRefusal {
     NoRoom,
 }
 
-#[derive(Clone, Copy)]
-pub enum BatchAnswer {
-    Refused(BatchRefusal),
-    Rung,
+impl From<Refusal> for BatchRefusal {
+    ghost from_gives = { λ why e. e ≡ BatchRefusal.Image why };
+
+    fn from(why: Refusal) -> BatchRefusal {
+        BatchRefusal::Image(why)
+    }
 }
 
 // How many commands there are, a last one that is not whole among them.
@@ -45,13 +47,13 @@ fn commands_in(commands: &[u64]) -> usize
     n + 1
 }
 
-fn judge_at(f: Features, commands: &[u64], i: usize) -> Verdict
+fn judge_at(f: Features, commands: &[u64], i: usize) -> Result<Coded, Fault>
     requires { wide * i ≤ length commands.now }
     ensures { result ≡ judged_at f commands.now i }
 {
     let at = writer::WIDE * i;
     if commands.len() - at < writer::WIDE {
-        return Verdict::Faulty(Fault::Unfit);
+        return Err(Fault::Unfit);
     }
     let end = at + writer::WIDE;
     writer::judge(f, &commands[at..end])
@@ -63,7 +65,7 @@ fn first_bad(f: Features, commands: &[u64], n: usize) -> Judged
 {
     let mut i = 0;
     while i < n {
-        if let Verdict::Faulty(why) = judge_at(f, commands, i) {
+        if let Err(why) = judge_at(f, commands, i) {
             return Judged::Bad(i, why);
         }
         i += 1;
@@ -93,25 +95,22 @@ fn ring(kept: &mut [u64], w: u64, n: u64)
 }
 
 // Writes the commands into the slots from WR on, and moves WR on.
-pub fn write_batch(kept: &mut [u64], queue: &mut [u8], commands: &[u64], f: Features) -> BatchAnswer
+pub fn write_batch(kept: &mut [u64], queue: &mut [u8], commands: &[u64], f: Features) -> Result<(), BatchRefusal>
     ensures { Gives (write_batch f commands.now (lent kept.old queue.old)) (lent kept.new queue.new) result }
 {
-    let checked = image::check(&*kept);
-    if let Checked::Refused(why) = checked {
-        return BatchAnswer::Refused(BatchRefusal::Image(why));
-    }
+    image::check(&*kept)?;
     let w = kept[0];
     if !runs::queue_good(&*queue, w) {
-        return BatchAnswer::Refused(BatchRefusal::BadQueue);
+        return Err(BatchRefusal::BadQueue);
     }
     let n = commands_in(commands);
     if let Judged::Bad(i, why) = first_bad(f, commands, n) {
-        return BatchAnswer::Refused(BatchRefusal::BadCommand(i, why));
+        return Err(BatchRefusal::BadCommand(i, why));
     }
     if free_in(w) < n as u64 {
-        return BatchAnswer::Refused(BatchRefusal::NoRoom);
+        return Err(BatchRefusal::NoRoom);
     }
     placing::place(&mut *queue, commands, w, n);
     ring(&mut *kept, w, n as u64);
-    BatchAnswer::Rung
+    Ok(())
 }

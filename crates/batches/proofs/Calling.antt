@@ -5,17 +5,12 @@ use mathlib.Core.Bool.{Bool, true, false, not, ◌&&◌}
 use mathlib.Core.List.{List}
 use Prim.Native.Nat.{ℕ, ◌+◌}
 use Rattle.words.specs.Search.{lowest}
-use Rattle.words.specs.declared.Found.{Found}
-use Rattle.words.specs.declared.Found.TheVariants.{At, Nothing}
+use Rattle.std.specs.Prelude.{Err, None, Ok, Option, Result, Some}
 use Rattle.commands.specs.declared.Features.{Features}
 use Rattle.image.specs.declared.Refusal.{Refusal}
-use Rattle.image.specs.declared.Checked.{Checked}
-use Rattle.image.specs.declared.Checked.TheVariants.{Accepted, Refused as NotAccepted}
 use Rattle.image.specs.Image as image
 use Rattle.image.proofs.Checks.{says, accepts}
 use Rattle.regions.specs.declared.Refusal.{Refusal as regions·Refusal}
-use Rattle.regions.specs.declared.Checked.{Checked as regions·Checked}
-use Rattle.regions.specs.declared.Checked.TheVariants.{Accepted as regions·Accepted, Refused as regions·NotAccepted}
 use Rattle.regions.specs.Table as regions
 use Rattle.regions.proofs.Checks.{says as regions·says, accepts as regions·accepts}
 use Rattle.memory.specs.Memory.{Memory, rows_in, Whole}
@@ -30,39 +25,39 @@ use Rattle.batches.specs.Blocks.{apart}
 use Rattle.batches.proofs.CarriedOut.{lowest-differs}
 
 -- x and y are what the searches of the two batches found, z the row
-module _ (f : Features) (original proposed : List ℕ) (m : Memory) (whole : Whole m) {x : Found} (first : x ≡ unfit f original) where
-  pub original-unfit : {k : ℕ} → x ≡ At k → Unfit Original k ≡ judged f original proposed m
+module _ (f : Features) (original proposed : List ℕ) (m : Memory) (whole : Whole m) {x : (Option ℕ)} (first : x ≡ unfit f original) where
+  pub original-unfit : {k : ℕ} → x ≡ Some k → Unfit Original k ≡ judged f original proposed m
   unfolding judged
   original-unfit e = rw (sym first ∙ e)
 
-  module _ (e : x ≡ Nothing) {y : Found} (second : y ≡ unfit f proposed) where
-    pub proposed-unfit : {k : ℕ} → y ≡ At k → Unfit Proposed k ≡ judged f original proposed m
+  module _ (e : x ≡ None) {y : (Option ℕ)} (second : y ≡ unfit f proposed) where
+    pub proposed-unfit : {k : ℕ} → y ≡ Some k → Unfit Proposed k ≡ judged f original proposed m
     unfolding judged
     proposed-unfit g = rw (sym first ∙ e, sym second ∙ g)
 
-    rows_case : y ≡ Nothing → {z : Found} → z ≡ lowest (apart f original proposed m) (rows_in m) 0 → by_row z ≡ judged f original proposed m
+    rows_case : y ≡ None → {z : (Option ℕ)} → z ≡ lowest (apart f original proposed m) (rows_in m) 0 → by_row z ≡ judged f original proposed m
     unfolding judged
     rows_case g third = rw (sym first ∙ e, sym second ∙ g) (ap by_row (third ∙ sym (lowest-differs f original proposed m whole)))
 
-    module _ (g : y ≡ Nothing) {z : Found} (third : z ≡ lowest (apart f original proposed m) (rows_in m) 0) where
-      pub rows-differ : {i : ℕ} → z ≡ At i → Differ i ≡ judged f original proposed m
+    module _ (g : y ≡ None) {z : (Option ℕ)} (third : z ≡ lowest (apart f original proposed m) (rows_in m) 0) where
+      pub rows-differ : {i : ℕ} → z ≡ Some i → Differ i ≡ judged f original proposed m
       rows-differ h = ap by_row (sym h) ∙ rows_case g third
 
-      pub rows_same : z ≡ Nothing → Same ≡ judged f original proposed m
+      pub rows_same : z ≡ None → Same ≡ judged f original proposed m
       rows_same h = ap by_row (sym h) ∙ rows_case g third
 
 -- x and y are what the checks of the two tables said, a and b what those of the batches' lengths said
-module _ (f : Features) (original proposed : List ℕ) (m : Memory) {x : Checked} (first : x ≡ image.check m.kept) where
-  pub refuses-image : {why : Refusal} → x ≡ NotAccepted why → Refused (Image why) ≡ check f original proposed m
+module _ (f : Features) (original proposed : List ℕ) (m : Memory) {x : (Result ℕ Refusal)} (first : x ≡ image.check m.kept) where
+  pub refuses-image : {why : Refusal} → x ≡ Err why → Refused (Image why) ≡ check f original proposed m
   unfolding check
   refuses-image e = rw (sym first ∙ e)
 
-  module _ {n : ℕ} (e : x ≡ Accepted n) {y : regions·Checked} (second : y ≡ regions.check m.table) where
-    pub refuses-table : {why : regions·Refusal} → y ≡ regions·NotAccepted why → Refused (Table why) ≡ check f original proposed m
+  module _ {n : ℕ} (e : x ≡ Ok n) {y : (Result ℕ regions·Refusal)} (second : y ≡ regions.check m.table) where
+    pub refuses-table : {why : regions·Refusal} → y ≡ Err why → Refused (Table why) ≡ check f original proposed m
     unfolding check
     refuses-table g = rw (sym first ∙ e, sym second ∙ g)
 
-    module _ {r : ℕ} (g : y ≡ regions·Accepted r) where
+    module _ {r : ℕ} (g : y ≡ Ok r) where
       pub whole-memory : Whole m
       whole-memory =
           accepted-whole m _ (accepts-both m n r ((says m.kept).accepted n (sym first ∙ e)) ((regions·says m.table).accepted r (sym second ∙ g)))
@@ -92,17 +87,17 @@ pub answered : (f : Features) (original proposed : List ℕ) (m : Memory) → An
 unfolding check
 answered f original proposed m = by_image (image.check m.kept) refl
   where
-    by-batches : (n r : ℕ) → image.check m.kept ≡ Accepted n → regions.check m.table ≡ regions·Accepted r
+    by-batches : (n r : ℕ) → image.check m.kept ≡ Ok n → regions.check m.table ≡ Ok r
         → (a b : Bool) → is_whole original ≡ a → is_whole proposed ≡ b → Answered f original proposed m
     by-batches n r e g false b p q = no BadBatch (rw (e, g, p))
     by-batches n r e g true false p q = no BadBatch (rw (e, g, p, q))
     by-batches n r e g true true p q =
         yes (n + r) (accepts-both m n r ((says m.kept).accepted n e) ((regions·says m.table).accepted r g)) p q
 
-    by_table : (n : ℕ) → image.check m.kept ≡ Accepted n → (y : regions·Checked) → regions.check m.table ≡ y → Answered f original proposed m
-    by_table n e (regions·NotAccepted why) g = no (Table why) (rw (e, g))
-    by_table n e (regions·Accepted r) g = by-batches n r e g (is_whole original) (is_whole proposed) refl refl
+    by_table : (n : ℕ) → image.check m.kept ≡ Ok n → (y : Result ℕ regions·Refusal) → regions.check m.table ≡ y → Answered f original proposed m
+    by_table n e (Err why) g = no (Table why) (rw (e, g))
+    by_table n e (Ok r) g = by-batches n r e g (is_whole original) (is_whole proposed) refl refl
 
-    by_image : (x : Checked) → image.check m.kept ≡ x → Answered f original proposed m
-    by_image (NotAccepted why) e = no (Image why) (rw e)
-    by_image (Accepted n) e = by_table n e (regions.check m.table) refl
+    by_image : (x : Result ℕ Refusal) → image.check m.kept ≡ x → Answered f original proposed m
+    by_image (Err why) e = no (Image why) (rw e)
+    by_image (Ok n) e = by_table n e (regions.check m.table) refl

@@ -8,8 +8,7 @@ use Prim.Native.Nat.{ℕ, ◌+◌, ◌-◌, ◌≤◌, ◌<◌}
 use native.Mathlib.Omega.{arith}
 use lib.ListN.{replicate, get_or-replicate}
 use Rattle.words.specs.Search.{lowest}
-use Rattle.words.specs.declared.Found.{Found}
-use Rattle.words.specs.declared.Found.TheVariants.{At, Nothing}
+use Rattle.std.specs.Prelude.{None, Option, Some}
 use Rattle.words.proofs.Search.{Searching, from_zero, found, none, found_lowest, is_none, lowest-same, passes}
 use Rattle.words.proofs.Truth.{less_or_not}
 use Rattle.commands.specs.declared.Features.{Features}
@@ -70,7 +69,7 @@ module _ {p : ℕ → Bool} {rows base : ℕ} (s : Blocks p rows base) where
   part : (n : ℕ) → lowest p n base ≡ lowest p (base + n - base) base
   part n = ap (λ (k : ℕ). lowest p k base) (let e : n ≡ base + n - base = omega arith in e)
 
-  pub found-in-block : (n : ℕ) {i : ℕ} {x : Found} → base + n ≤ rows → x ≡ lowest p n base → x ≡ At i → At i ≡ lowest p rows 0
+  pub found-in-block : (n : ℕ) {i : ℕ} {x : (Option ℕ)} → base + n ≤ rows → x ≡ lowest p n base → x ≡ Some i → Some i ≡ lowest p rows 0
   found-in-block n {i} h e g =
       let low = found p (base + n) base i (omega arith) (sym (part n) ∙ sym e ∙ g) in
       sym
@@ -83,12 +82,12 @@ module _ {p : ℕ → Bool} {rows base : ℕ} (s : Blocks p rows base) where
         first = λ j a b. ⊎_elim (λ l. s.none_below j l) (λ l. low.first j l b) (less_or_not j base);
       }))
 
-  pub none-in-block : (n : ℕ) {x : Found} → base + n ≤ rows → x ≡ lowest p n base → x ≡ Nothing → Blocks p rows (base + n)
+  pub none-in-block : (n : ℕ) {x : (Option ℕ)} → base + n ≤ rows → x ≡ lowest p n base → x ≡ None → Blocks p rows (base + n)
   none-in-block n h e g =
       record {
         within = h;
         none_below = λ j b. ⊎_elim (λ l. s.none_below j l) (λ l. none p (base + n) base (omega arith) (sym (part n) ∙ sym e ∙ g) j l b) (less_or_not j base);
       }
 
-  pub no_more : rows ≤ base → Nothing ≡ lowest p rows 0
+  pub no_more : rows ≤ base → None ≡ lowest p rows 0
   no_more h = sym (from_zero p rows ∙ is_none p rows 0 (omega arith) (λ j a b. s.none_below j (omega arith)))

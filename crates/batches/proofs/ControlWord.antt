@@ -10,7 +10,9 @@ use lib.ListN.{length, set, length-set}
 use lib.Seq.{get_or-set_same, ext_get_or}
 use Rattle.words.specs.Choice.{pick}
 use Rattle.words.specs.Search.{lowest}
-use Rattle.words.specs.declared.Found.{Found}
+use Rattle.std.specs.Prelude.{Err, Ok, Option, Result}
+use Rattle.image.specs.declared.Refusal.{Refusal}
+use Rattle.regions.specs.declared.Refusal.{Refusal as TableRefusal}
 use Rattle.words.proofs.Search.{lowest-same}
 use Rattle.control.specs.Control as control
 use Rattle.rows.specs.declared.Row.{Row}
@@ -19,14 +21,10 @@ use Rattle.commands.specs.declared.Features.{Features}
 use Rattle.commands.specs.declared.Decoded.{Decoded}
 use Rattle.commands.specs.declared.Decoded.TheVariants.{Legal, Illegal}
 use Rattle.commands.specs.Decoding.{decode_at}
-use Rattle.image.specs.declared.Checked.{Checked}
-use Rattle.image.specs.declared.Checked.TheVariants.{Accepted, Refused as NotAccepted}
 use Rattle.image.specs.declared.Refusal.TheVariants.{BadLength}
 use Rattle.image.specs.Image as image
 use Rattle.image.proofs.Checks.{says}
 use Rattle.image.proofs.AfterStores.{row_kept}
-use Rattle.regions.specs.declared.Checked.{Checked as regions·Checked}
-use Rattle.regions.specs.declared.Checked.TheVariants.{Accepted as regions·Accepted, Refused as regions·NotAccepted}
 use Rattle.regions.specs.Table as regions
 use Rattle.regions.proofs.Checks.{says as regions·says}
 use Rattle.memory.specs.Memory.{Memory, control_of, rows_in, stored, Whole, SameRows, both}
@@ -58,7 +56,7 @@ module _ (k : List ℕ) (w : ℕ) (some : 0 < length k) (formed : control.well_f
   unfolding image.check
   same-image =
       rw (same_length, get_or-set_same k 0 w 0 some, formed, formed')
-      (ap (pick (not (image.length_good k)) (NotAccepted BadLength)) (ap₂ image.by_rows (ap (λ (n : ℕ). n / 4) (length-set k 0 w)) same_rows))
+      (ap (pick (not (image.length_good k)) (Err BadLength)) (ap₂ image.by_rows (ap (λ (n : ℕ). n / 4) (length-set k 0 w)) same_rows))
 
 -- and what is judged
 module _ (f : Features) (m : Memory) (w : ℕ) where
@@ -85,7 +83,7 @@ module _ (f : Features) (m : Memory) (w : ℕ) where
 
     same-judged : judged f original proposed (stored m w) ≡ judged f original proposed m
     unfolding judged
-    same-judged = ap (λ (x : Found). unfit_or Original (unfit f original) (unfit_or Proposed (unfit f proposed) (by_row x))) same-lowest
+    same-judged = ap (λ (x : Option ℕ). unfit_or Original (unfit f original) (unfit_or Proposed (unfit f proposed) (by_row x))) same-lowest
 
   module _ (original proposed : List ℕ) (some : 0 < length m.kept) (formed : control.well_formed (control_of m) ≡ true) (formed' : control.well_formed w ≡ true) where
     pub same-stored : check f original proposed (stored m w) ≡ check f original proposed m
@@ -95,17 +93,17 @@ module _ (f : Features) (m : Memory) (w : ℕ) where
         rest : CheckAnswer → CheckAnswer
         rest = pick (not (is_whole original && is_whole proposed)) (Refused BadBatch)
 
-        by_table : (n : ℕ) → image.check m.kept ≡ Accepted n → (y : regions·Checked) → regions.check m.table ≡ y
+        by_table : (n : ℕ) → image.check m.kept ≡ Ok n → (y : Result ℕ TableRefusal) → regions.check m.table ≡ y
             → regions.checked y (λ why. Refused (Table why)) (λ r. rest (judged f original proposed (stored m w))) ≡ regions.checked y (λ why. Refused (Table why)) (λ r. rest (judged f original proposed m))
-        by_table n e (regions·NotAccepted why) g = refl
-        by_table n e (regions·Accepted r) g =
+        by_table n e (Err why) g = refl
+        by_table n e (Ok r) g =
             ap rest (same-judged original proposed (accepted-whole m (n + r) (accepts-both m n r ((says m.kept).accepted n e) ((regions·says m.table).accepted r g))))
 
-        by_image : (x : Checked) → image.check m.kept ≡ x
+        by_image : (x : Result ℕ Refusal) → image.check m.kept ≡ x
             → image.checked x (λ why. Refused (Image why)) (λ n. regions.checked (regions.check m.table) (λ why. Refused (Table why)) (λ r. rest (judged f original proposed (stored m w))))
             ≡ image.checked x (λ why. Refused (Image why)) (λ n. regions.checked (regions.check m.table) (λ why. Refused (Table why)) (λ r. rest (judged f original proposed m)))
-        by_image (NotAccepted why) e = refl
-        by_image (Accepted n) e = by_table n e (regions.check m.table) refl
+        by_image (Err why) e = refl
+        by_image (Ok n) e = by_table n e (regions.check m.table) refl
 
 -- so two memories with the same rows and tables get the same answer, if both control words are well formed
 pub control_alone : (f : Features) (original proposed : List ℕ) (a b : Memory) → SameRows a b

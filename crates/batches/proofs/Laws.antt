@@ -12,8 +12,7 @@ use lib.Dec.{eqb}
 use borrow.Author.Tests.{eq-eqb, eqb-true, not-false}
 use Rattle.words.specs.Choice.{pick}
 use Rattle.words.specs.Search.{lowest}
-use Rattle.words.specs.declared.Found.{Found}
-use Rattle.words.specs.declared.Found.TheVariants.{At, Nothing}
+use Rattle.std.specs.Prelude.{None, Option, Some}
 use Rattle.words.proofs.Search.{from_zero, none, is_none}
 use Rattle.words.proofs.Truth.{clash, either, or_left, or_right}
 use Rattle.commands.specs.declared.Features.{Features}
@@ -75,13 +74,13 @@ module _ (f : Features) (batch : List ℕ) where
   abbrev unfitAt : ℕ → Bool
   unfitAt k = not (qualifies (decode_at f batch k))
 
-  all_fit : unfit f batch ≡ Nothing → (k : ℕ) → k < size batch → qualifies (decode_at f batch k) ≡ true
+  all_fit : unfit f batch ≡ None → (k : ℕ) → k < size batch → qualifies (decode_at f batch k) ≡ true
   unfolding unfit
   all_fit e k h =
       not-false (qualifies (decode_at f batch k))
       (none unfitAt (size batch) 0 (omega arith) (sym (from_zero unfitAt (size batch)) ∙ e) k (omega arith) h)
 
-  none-unfit : ((k : ℕ) → k < size batch → qualifies (decode_at f batch k) ≡ true) → unfit f batch ≡ Nothing
+  none-unfit : ((k : ℕ) → k < size batch → qualifies (decode_at f batch k) ≡ true) → unfit f batch ≡ None
   unfolding unfit
   none-unfit each = from_zero unfitAt (size batch) ∙ is_none unfitAt (size batch) 0 (omega arith) (λ k x h. ap not (each k h))
 
@@ -116,11 +115,11 @@ pub record Some (m : Memory) : Type 0 where
 
 module _ (f : Features) (original proposed : List ℕ) (m : Memory) where
   -- a yes says that both are batches of legal invalidations and leave the same memory
-  by_found : (x y z : Found) → unfit_or Original x (unfit_or Proposed y (by_row z)) ≡ Same → (x ≡ Nothing) × (y ≡ Nothing) × (z ≡ Nothing)
-  by_found (At k) y z e = let q : ◌≡◌ {A = ℕ} 0 1 = cc in absurd (omega arith)
-  by_found Nothing (At k) z e = let q : ◌≡◌ {A = ℕ} 0 1 = cc in absurd (omega arith)
-  by_found Nothing Nothing (At i) e = let q : ◌≡◌ {A = ℕ} 0 1 = cc in absurd (omega arith)
-  by_found Nothing Nothing Nothing e = (refl, refl, refl)
+  by_found : (x y z : Option ℕ) → unfit_or Original x (unfit_or Proposed y (by_row z)) ≡ Same → (x ≡ None) × (y ≡ None) × (z ≡ None)
+  by_found (Some k) y z e = let q : ◌≡◌ {A = ℕ} 0 1 = cc in absurd (omega arith)
+  by_found None (Some k) z e = let q : ◌≡◌ {A = ℕ} 0 1 = cc in absurd (omega arith)
+  by_found None None (Some i) e = let q : ◌≡◌ {A = ℕ} 0 1 = cc in absurd (omega arith)
+  by_found None None None e = (refl, refl, refl)
 
   pub yes-says : check f original proposed m ≡ Same → Agree f original proposed m
   unfolding judged
@@ -142,7 +141,7 @@ module _ (f : Features) (original proposed : List ℕ) (m : Memory) where
   unfolding judged
   says-yes n a s =
       let d = differs (left f original m) (left f proposed m) in
-      let rows : lowest d (rows_in m) 0 ≡ Nothing =
+      let rows : lowest d (rows_in m) 0 ≡ None =
       from_zero d (rows_in m) ∙ is_none d (rows_in m) 0 (omega arith) (λ i x h. rw s.same (itself (left f proposed m) i)) in
       goes_through f original proposed m n a s.original_fits.whole s.proposed_fits.whole
       ∙ rw (none-unfit f original s.original_fits.each, none-unfit f proposed s.proposed_fits.each, rows)

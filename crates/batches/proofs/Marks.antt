@@ -14,7 +14,7 @@ use lib.Seq.{get_or-set_same, get_or-set_other}
 use borrow.Author.Tests.{lt-ltb, le-ltb, not-false}
 use Rattle.words.specs.Choice.{pick}
 use Rattle.words.specs.Search.{lowest}
-use Rattle.words.specs.declared.Found.TheVariants.{At, Nothing}
+use Rattle.std.specs.Prelude.{None, Some}
 use Rattle.words.proofs.Search.{Lowest, found, none}
 use Rattle.words.proofs.Truth.{less_or_not}
 use Rattle.commands.specs.declared.Features.{Features}
@@ -80,11 +80,11 @@ module _ {p : ℕ → Bool} {rows base end : ℕ} {before marks : List Bool} {i 
   pub at-end : end ≤ i → AddsBelow rows base p before marks
   at-end h = all-marked (λ j a b. absurd (omega (arith, h, a, b)))
 
-  pub none_more : lowest p (end - i) i ≡ Nothing → AddsBelow rows base p before marks
+  pub none_more : lowest p (end - i) i ≡ None → AddsBelow rows base p before marks
   none_more e = all-marked (none p end i s.within e)
 
   -- the next row in scope
-  module _ {row : ℕ} (e : lowest p (end - i) i ≡ At row) where
+  module _ {row : ℕ} (e : lowest p (end - i) i ≡ Some row) where
     next : Lowest p end i row
     next = found p end i row s.within e
 

@@ -1,11 +1,9 @@
 -- Document 02, T-12: whether a proposed batch of invalidations leaves the rows that the original does; refusals 1, 2, 3, then 13 and 14,
 -- then 23.
 -- Assumes nothing.
-use Rattle.std.specs.Prelude.{Bool, false, not, ◌&&◌, List, ℕ, zero, suc, ◌/◌, ◌%◌, eqb, length}
+use Rattle.std.specs.Prelude.{Bool, false, not, ◌&&◌, List, ℕ, zero, suc, ◌/◌, ◌%◌, eqb, length, None, Option, Some}
 use Rattle.words.specs.Choice.{pick}
 use Rattle.words.specs.Search.{lowest}
-use Rattle.words.specs.declared.Found.{Found}
-use Rattle.words.specs.declared.Found.TheVariants.{At, Nothing}
 use Rattle.rows.specs.declared.Row.{Row}
 use Rattle.commands.specs.declared.Features.{Features}
 use Rattle.commands.specs.declared.Command.{Command}
@@ -37,7 +35,7 @@ qualifies (Legal command) = invalidates command
 qualifies (Illegal why) = false
 
 -- the first command of a batch that does not
-unfoldable pub unfit : Features → List ℕ → Found
+unfoldable pub unfit : Features → List ℕ → Option ℕ
 unfit f batch = lowest (λ k. not (qualifies (decode_at f batch k))) (size batch) 0
 
 -- a command carried out in full: of the lowest n rows, each that is in its scope goes
@@ -76,13 +74,13 @@ differs a b i =
     (same_region (regions.row_at a.table (behind a i)) (regions.row_at b.table (behind a i))))
 
 -- the first command that does not qualify, the original batch searched first; else the lowest row that differs; else yes
-abbrev pub unfit_or : Batch → Found → CheckAnswer → CheckAnswer
-unfit_or batch (At k) next = Unfit batch k
-unfit_or batch Nothing next = next
+abbrev pub unfit_or : Batch → Option ℕ → CheckAnswer → CheckAnswer
+unfit_or batch (Some k) next = Unfit batch k
+unfit_or batch None next = next
 
-abbrev pub by_row : Found → CheckAnswer
-by_row (At i) = Differ i
-by_row Nothing = Same
+abbrev pub by_row : Option ℕ → CheckAnswer
+by_row (Some i) = Differ i
+by_row None = Same
 
 unfoldable pub judged : Features → List ℕ → List ℕ → Memory → CheckAnswer
 judged f original proposed m =

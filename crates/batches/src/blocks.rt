@@ -6,7 +6,6 @@ ghost use Rattle.memory.specs.Memory.{both, rows_in, scoped_at, Whole};
 ghost use Rattle.batches.specs.Blocks.{taken, one, apart, block_rows, in_block, mark, Marks, AddsBelow, Adds};
 
 use commands::{Command, Decoded, Features};
-use words::Found;
 
 const BLOCK: usize = 256;
 
@@ -39,7 +38,7 @@ fn mark_rows(
     let end = base + rows_in(rows, base);
     let mut i = base;
     while i < end {
-        let Found::At(row) = due::find_in(kept, table, f, c, i, end) else {
+        let Some(row) = due::find_in(kept, table, f, c, i, end) else {
             return;
         };
         marks[row - base] = true;
@@ -89,7 +88,7 @@ fn mark_batch(
 }
 
 // The lowest of the n rows from row base on that one of two batches alone removes, by their marks.
-fn first_apart(a: &[bool], b: &[bool], base: usize, n: usize) -> Found
+fn first_apart(a: &[bool], b: &[bool], base: usize, n: usize) -> Option<usize>
     requires { (n ≤ length a.now) × (n ≤ length b.now) × (base + n < 2 ^ 64) }
     ensures { result ≡ lowest (λ i. one (mark a.now (i - base)) (mark b.now (i - base))) n base }
 {
@@ -98,11 +97,11 @@ fn first_apart(a: &[bool], b: &[bool], base: usize, n: usize) -> Found
     while i < end {
         let j = i - base;
         if a[j] ^ b[j] {
-            return Found::At(i);
+            return Some(i);
         }
         i += 1;
     }
-    Found::Nothing
+    None
 }
 
 fn compare_block(
@@ -113,7 +112,7 @@ fn compare_block(
     proposed: &[u8],
     base: usize,
     n: usize,
-) -> Found
+) -> Option<usize>
     requires { Whole (both kept.now table.now) × (n ≤ block_rows) × (base + n ≤ rows_in (both kept.now table.now)) }
     ensures { result ≡ lowest (apart f original.now proposed.now (both kept.now table.now)) n base }
 {
@@ -131,7 +130,7 @@ pub fn lowest_apart(
     f: Features,
     original: &[u8],
     proposed: &[u8],
-) -> Found
+) -> Option<usize>
     requires { Whole (both kept.now table.now) }
     ensures { result ≡ lowest (apart f original.now proposed.now (both kept.now table.now)) (rows_in (both kept.now table.now)) 0 }
 {
@@ -140,10 +139,10 @@ pub fn lowest_apart(
     while base < rows {
         let n = rows_in(rows, base);
         let found = compare_block(kept, table, f, original, proposed, base, n);
-        if let Found::At(row) = found {
-            return Found::At(row);
+        if let Some(row) = found {
+            return Some(row);
         }
         base += n;
     }
-    Found::Nothing
+    None
 }

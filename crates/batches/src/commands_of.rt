@@ -3,7 +3,6 @@ ghost use Rattle.std.specs.Prelude.{◌≡◌};
 ghost use Rattle.batches.specs.Batches.{qualifies, unfit};
 
 use commands::{Decoded, Features};
-use words::Found;
 
 fn qualifies(d: Decoded) -> bool
     ensures { result ≡ qualifies d }
@@ -15,16 +14,16 @@ fn qualifies(d: Decoded) -> bool
 }
 
 // The first command of a batch that doesn't qualify.
-pub fn first_unfit(f: Features, batch: &[u8]) -> Found
+pub fn first_unfit(f: Features, batch: &[u8]) -> Option<usize>
     ensures { result ≡ unfit f batch.now }
 {
     let n = batch.len() / 16;
     let mut k = 0;
     while k < n {
         if !qualifies(commands::decode_at(f, batch, k)) {
-            return Found::At(k);
+            return Some(k);
         }
         k += 1;
     }
-    Found::Nothing
+    None
 }

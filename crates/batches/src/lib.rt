@@ -11,7 +11,6 @@ ghost use Rattle.batches.specs.Batches.{is_whole, judged, check};
 
 use commands::Features;
 use image::Refusal;
-use words::Found;
 
 // The two batches that are compared.
 #[derive(Clone, Copy)]
@@ -30,11 +29,26 @@ pub enum CheckRefusal {
 
 // Yes; or the first command that doesn't qualify, or the lowest row that differs.
 #[derive(Clone, Copy)]
-pub enum CheckAnswer {
-    Refused(CheckRefusal),
+pub enum Comparison {
     Same,
     Unfit(Batch, usize),
     Differ(usize),
+}
+
+impl From<Refusal> for CheckRefusal {
+    ghost from_gives = { λ why e. e ≡ CheckRefusal.Image why };
+
+    fn from(why: Refusal) -> CheckRefusal {
+        CheckRefusal::Image(why)
+    }
+}
+
+impl From<regions::Refusal> for CheckRefusal {
+    ghost from_gives = { λ why e. e ≡ CheckRefusal.Table why };
+
+    fn from(why: regions::Refusal) -> CheckRefusal {
+        CheckRefusal::Table(why)
+    }
 }
 
 fn is_whole(batch: &[u8]) -> bool
@@ -43,21 +57,21 @@ fn is_whole(batch: &[u8]) -> bool
     batch.len() % 16 == 0
 }
 
-fn judge(kept: &[u64], table: &[u64], original: &[u8], proposed: &[u8], f: Features) -> CheckAnswer
+fn judge(kept: &[u64], table: &[u64], original: &[u8], proposed: &[u8], f: Features) -> Comparison
     requires { Whole (both kept.now table.now) }
     ensures { result ≡ judged f original.now proposed.now (both kept.now table.now) }
 {
     let first = commands_of::first_unfit(f, original);
-    if let Found::At(k) = first {
-        return CheckAnswer::Unfit(Batch::Original, k);
+    if let Some(k) = first {
+        return Comparison::Unfit(Batch::Original, k);
     }
     let second = commands_of::first_unfit(f, proposed);
-    if let Found::At(k) = second {
-        return CheckAnswer::Unfit(Batch::Proposed, k);
+    if let Some(k) = second {
+        return Comparison::Unfit(Batch::Proposed, k);
     }
     match blocks::lowest_apart(kept, table, f, original, proposed) {
-        Found::At(i) => CheckAnswer::Differ(i),
-        Found::Nothing => CheckAnswer::Same,
+        Some(i) => Comparison::Differ(i),
+        None => Comparison::Same,
     }
 }
 
@@ -68,19 +82,13 @@ pub fn check(
     original: &[u8],
     proposed: &[u8],
     f: Features,
-) -> CheckAnswer
+) -> Result<Comparison, CheckRefusal>
     ensures { result ≡ check f original.now proposed.now (both kept.now table.now) }
 {
-    let checked = image::check(kept);
-    if let image::Checked::Refused(why) = checked {
-        return CheckAnswer::Refused(CheckRefusal::Image(why));
-    }
-    let second = regions::check(table);
-    if let regions::Checked::Refused(why) = second {
-        return CheckAnswer::Refused(CheckRefusal::Table(why));
-    }
+    image::check(kept)?;
+    regions::check(table)?;
     if !(is_whole(original) & is_whole(proposed)) {
-        return CheckAnswer::Refused(CheckRefusal::BadBatch);
+        return Err(CheckRefusal::BadBatch);
     }
-    judge(kept, table, original, proposed, f)
+    Ok(judge(kept, table, original, proposed, f))
 }

@@ -4,7 +4,6 @@
 ghost use Rattle.words.specs.Outcomes.{Gives};
 ghost use Rattle.control_calls.specs.Calls.{doorbell, acknowledge, clear_pending, enable};
 
-use image::Checked;
 
 // Why a doorbell is refused: the image, or an index that WR may not become.
 #[derive(Clone, Copy)]
@@ -13,10 +12,12 @@ pub enum DoorbellRefusal {
     BadIndex,
 }
 
-#[derive(Clone, Copy)]
-pub enum DoorbellAnswer {
-    Refused(DoorbellRefusal),
-    Rung,
+impl From<image::Refusal> for DoorbellRefusal {
+    ghost from_gives = { λ why e. e ≡ DoorbellRefusal.Image why };
+
+    fn from(why: image::Refusal) -> DoorbellRefusal {
+        DoorbellRefusal::Image(why)
+    }
 }
 
 // Why an acknowledge is refused: the image, or no error to acknowledge.
@@ -26,10 +27,12 @@ pub enum AcknowledgeRefusal {
     NoError,
 }
 
-#[derive(Clone, Copy)]
-pub enum AcknowledgeAnswer {
-    Refused(AcknowledgeRefusal),
-    Acknowledged,
+impl From<image::Refusal> for AcknowledgeRefusal {
+    ghost from_gives = { λ why e. e ≡ AcknowledgeRefusal.Image why };
+
+    fn from(why: image::Refusal) -> AcknowledgeRefusal {
+        AcknowledgeRefusal::Image(why)
+    }
 }
 
 // Why clearing is refused: the image, or no interrupt that is pending.
@@ -39,80 +42,59 @@ pub enum ClearRefusal {
     NotPending,
 }
 
-#[derive(Clone, Copy)]
-pub enum ClearAnswer {
-    Refused(ClearRefusal),
-    Cleared,
-}
+impl From<image::Refusal> for ClearRefusal {
+    ghost from_gives = { λ why e. e ≡ ClearRefusal.Image why };
 
-// Enabling and disabling are refused for the image only.
-#[derive(Clone, Copy)]
-pub enum EnableAnswer {
-    Refused(image::Refusal),
-    Switched,
+    fn from(why: image::Refusal) -> ClearRefusal {
+        ClearRefusal::Image(why)
+    }
 }
 
 // WR becomes wr.
-pub fn doorbell(kept: &mut [u64], wr: u64) -> DoorbellAnswer
+pub fn doorbell(kept: &mut [u64], wr: u64) -> Result<(), DoorbellRefusal>
     ensures { Gives (doorbell kept.old wr) kept.new result }
 {
-    match image::check(&*kept) {
-        Checked::Refused(why) => DoorbellAnswer::Refused(DoorbellRefusal::Image(why)),
-        Checked::Accepted(_) => {
-            let w = kept[0];
-            if !control_stores::may_ring(w, wr) {
-                return DoorbellAnswer::Refused(DoorbellRefusal::BadIndex);
-            }
-            kept[0] = control_stores::rung(w, wr);
-            DoorbellAnswer::Rung
-        }
+    image::check(&*kept)?;
+    let w = kept[0];
+    if !control_stores::may_ring(w, wr) {
+        return Err(DoorbellRefusal::BadIndex);
     }
+    kept[0] = control_stores::rung(w, wr);
+    Ok(())
 }
 
 // GERRORN becomes equal to GERROR; the error code stays to be read.
-pub fn acknowledge(kept: &mut [u64]) -> AcknowledgeAnswer
+pub fn acknowledge(kept: &mut [u64]) -> Result<(), AcknowledgeRefusal>
     ensures { Gives (acknowledge kept.old) kept.new result }
 {
-    match image::check(&*kept) {
-        Checked::Refused(why) => AcknowledgeAnswer::Refused(AcknowledgeRefusal::Image(why)),
-        Checked::Accepted(_) => {
-            let w = kept[0];
-            if !control::active(w) {
-                return AcknowledgeAnswer::Refused(AcknowledgeRefusal::NoError);
-            }
-            kept[0] = control_stores::acknowledged(w);
-            AcknowledgeAnswer::Acknowledged
-        }
+    image::check(&*kept)?;
+    let w = kept[0];
+    if !control::active(w) {
+        return Err(AcknowledgeRefusal::NoError);
     }
+    kept[0] = control_stores::acknowledged(w);
+    Ok(())
 }
 
 // Document 02, T-08: the completion interrupt is no longer pending.
-pub fn clear_pending(kept: &mut [u64]) -> ClearAnswer
+pub fn clear_pending(kept: &mut [u64]) -> Result<(), ClearRefusal>
     ensures { Gives (clear_pending kept.old) kept.new result }
 {
-    match image::check(&*kept) {
-        Checked::Refused(why) => ClearAnswer::Refused(ClearRefusal::Image(why)),
-        Checked::Accepted(_) => {
-            let w = kept[0];
-            if !(control::pending_of(w) == 1) {
-                return ClearAnswer::Refused(ClearRefusal::NotPending);
-            }
-            kept[0] = control_stores::pended(w, false);
-            ClearAnswer::Cleared
-        }
+    image::check(&*kept)?;
+    let w = kept[0];
+    if !(control::pending_of(w) == 1) {
+        return Err(ClearRefusal::NotPending);
     }
+    kept[0] = control_stores::pended(w, false);
+    Ok(())
 }
 
-// CMDQEN becomes on.
-pub fn enable(kept: &mut [u64], on: bool) -> EnableAnswer
+// CMDQEN becomes on; refused for the image only.
+pub fn enable(kept: &mut [u64], on: bool) -> Result<(), image::Refusal>
     ensures { Gives (enable kept.old on) kept.new result }
 {
-    match image::check(&*kept) {
-        Checked::Refused(why) => EnableAnswer::Refused(why),
-        Checked::Accepted(_) => {
-            let w = kept[0];
-            kept[0] = control_stores::switched(w, on);
-            EnableAnswer::Switched
-        }
-    }
+    image::check(&*kept)?;
+    let w = kept[0];
+    kept[0] = control_stores::switched(w, on);
+    Ok(())
 }

@@ -2,8 +2,7 @@
 -- Assumes nothing.
 use Rattle.std.proofs.Common.{◌≡◌, ℕ, ◌^◌, ◌<◌, Bool, true, false, ◌&&◌, ◌||◌, eqb, List, sym, refl, ap, ◌∙◌, arith, eq-eqb, eqb-true}
 use Rattle.words.specs.Search.{lowest}
-use Rattle.words.specs.declared.Found.{Found}
-use Rattle.words.specs.declared.Found.TheVariants.{At, Nothing}
+use Rattle.std.specs.Prelude.{None, Option, Some, ℕ}
 use Rattle.words.proofs.Truth.{left, right, and_true, same_test, never, clash}
 use Rattle.words.proofs.Spans.{either_first}
 use Rattle.words.proofs.Search.{from_zero, none, is_none}
@@ -99,9 +98,9 @@ turned a b e =
     })
 
 -- a search that finds nothing
-not_found : (f : Found) → is_found f ≡ false → f ≡ Nothing
-not_found (At i) e = clash refl e
-not_found Nothing e = refl
+not_found : (f : Option ℕ) → is_found f ≡ false → f ≡ None
+not_found (Some i) e = clash refl e
+not_found None e = refl
 
 module _ (m : List ℕ) (n : ℕ) (words : Row) where
   -- the words are alone: none of the first n rows collides with them

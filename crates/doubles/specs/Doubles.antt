@@ -1,11 +1,9 @@
 -- Document 02, T-02 and T-05: which rows could answer the same lookup.
 -- Assumes nothing.
-use Rattle.std.specs.Prelude.{ℕ, ◌+◌, ◌-◌, ◌%◌, ◌^◌, Bool, true, false, ◌&&◌, ◌||◌, List, ◌==◌, bit_and}
+use Rattle.std.specs.Prelude.{ℕ, ◌+◌, ◌-◌, ◌%◌, ◌^◌, Bool, true, false, ◌&&◌, ◌||◌, List, ◌==◌, bit_and, None, Option, Some}
 use Rattle.words.specs.Choice.{pick}
 use Rattle.words.specs.Spans.{overlap}
 use Rattle.words.specs.Search.{lowest}
-use Rattle.words.specs.declared.Found.{Found}
-use Rattle.words.specs.declared.Found.TheVariants.{At, Nothing}
 use Rattle.rows.specs.declared.Row.{Row}
 use Rattle.rows.specs.Rows as rows
 use Rattle.image.specs.Image.{row_at}
@@ -55,9 +53,9 @@ screen_of words =
     (pick (rows.kind words == rows.cd) (Named answer_mask (of_answer rows.cd) stream_mask (rows.stream words))
     (Reaching answer_vmid_mask (bit_and words.w0 answer_vmid_mask) ((words.w2 + more_bytes words) % 2 ^ 64) (more_bytes words)))
 
-abbrev pub is_found : Found → Bool
-is_found (At i) = true
-is_found Nothing = false
+abbrev pub is_found : Option ℕ → Bool
+is_found (Some i) = true
+is_found None = false
 
 -- the words collide with one of the first n rows
 unfoldable pub doubled : List ℕ → ℕ → Row → Bool

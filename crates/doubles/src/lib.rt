@@ -6,7 +6,6 @@ ghost use Rattle.doubles.specs.Doubles.{same_context, shares_address, shares_sta
 
 use rows::{Row, kinds};
 use screens::{Screen, answering, places};
-use words::Found;
 
 fn same_context(a: Row, b: Row) -> bool
     ensures { result ≡ same_context a b }
@@ -106,7 +105,7 @@ pub fn doubled(kept: &[u64], n: usize, words: Row) -> bool
     let s = screen_of(words);
     let mut i = 0;
     while i < n {
-        let Found::At(row) = screens::next(kept, s, i, n) else {
+        let Some(row) = screens::next(kept, s, i, n) else {
             return false;
         };
         if collides_at(kept, words, row) {

@@ -3,8 +3,7 @@
 use mathlib.Core.Path.{◌≡◌, refl, sym, ap, ◌∙◌}
 use Prim.Native.Nat.{ℕ, ◌+◌, ◌*◌, ◌≤◌, ◌<◌}
 use native.Mathlib.Omega.{arith}
-use Rattle.words.specs.declared.Found.{Found}
-use Rattle.words.specs.declared.Found.TheVariants.{At, Nothing}
+use Rattle.std.specs.Prelude.{None, Option, Some}
 use Rattle.words.proofs.Search.{found}
 use Rattle.control.specs.Control as control
 use Rattle.control_stores.specs.Stores as control-stores
@@ -19,13 +18,13 @@ use Rattle.due.specs.declared.Stepped.TheVariants.{Removed, Consumed, DidRaise}
 use Rattle.due.specs.Due.{Remove, Stores, scan, scanned, by_scan, after_command, due_for, store_of, Ready, Made}
 
 module _ (f : Features) (c : Command) (from : ℕ) (m : Memory) (r : Ready f (Legal c) from m) where
-  scan_case : (x : Found) → x ≡ scanned f c m from → due_for f (Legal c) m ≡ by_scan c (control_of m) x
+  scan_case : (x : Option ℕ) → x ≡ scanned f c m from → due_for f (Legal c) m ≡ by_scan c (control_of m) x
   unfolding due_for
   scan_case x e = ap (by_scan c (control_of m)) (sym (e ∙ r.none_below))
 
 -- what a step ensures, from what its calls said: x what the scan found, v the word stored
 module _ {f : Features} {d : Decoded} {from : ℕ} {m : Memory} (r : Ready f d from m) where
-  pub made-removed : {c : Command} {x : Found} {i : ℕ} {m' : Memory} → d ≡ Legal c → x ≡ scanned f c m from → x ≡ At i → m' ≡ cleared m i → Made f d m m' (Removed i)
+  pub made-removed : {c : Command} {x : (Option ℕ)} {i : ℕ} {m' : Memory} → d ≡ Legal c → x ≡ scanned f c m from → x ≡ Some i → m' ≡ cleared m i → Made f d m m' (Removed i)
   made-removed {c} {x} {i} s e g h =
       rw s
       (record {
@@ -34,17 +33,17 @@ module _ {f : Features} {d : Decoded} {from : ℕ} {m : Memory} (r : Ready f d f
       })
 
   -- in the first table, or in the second
-  pub made-first : {c : Command} {x : Found} {i : ℕ} → d ≡ Legal c → x ≡ scanned f c m from → x ≡ At i → i < kept_rows m → Made f d m (in_kept m (4 * i + 1) 0) (Removed i)
+  pub made-first : {c : Command} {x : (Option ℕ)} {i : ℕ} → d ≡ Legal c → x ≡ scanned f c m from → x ≡ Some i → i < kept_rows m → Made f d m (in_kept m (4 * i + 1) 0) (Removed i)
   made-first {i = i} s e g h = made-removed s e g (rw (is-kept m i h))
 
-  pub made-second : {c : Command} {x : Found} {i : ℕ} → d ≡ Legal c → x ≡ scanned f c m from → x ≡ At i → kept_rows m ≤ i → Made f d m (in_second m (2 * behind m i) 0) (Removed i)
+  pub made-second : {c : Command} {x : (Option ℕ)} {i : ℕ} → d ≡ Legal c → x ≡ scanned f c m from → x ≡ Some i → kept_rows m ≤ i → Made f d m (in_second m (2 * behind m i) 0) (Removed i)
   made-second {i = i} s e g h = made-removed s e g (rw (is-behind m i h))
 
   -- the row found is there to be emptied
-  pub row-there : {c : Command} {x : Found} {i : ℕ} → d ≡ Legal c → x ≡ scanned f c m from → x ≡ At i → Whole m × (i < rows_in m)
+  pub row-there : {c : Command} {x : (Option ℕ)} {i : ℕ} → d ≡ Legal c → x ≡ scanned f c m from → x ≡ Some i → Whole m × (i < rows_in m)
   row-there {c} {i = i} s e g = (r.room, (found (scoped_at f c m) (rows_in m) from i r.high (sym e ∙ g)).below)
 
-  pub made-consumed : {c : Command} {x : Found} {v : ℕ} → d ≡ Legal c → x ≡ scanned f c m from → x ≡ Nothing → v ≡ after_command (Legal c) (control_of m) → Made f d m (stored m v) Consumed
+  pub made-consumed : {c : Command} {x : (Option ℕ)} {v : ℕ} → d ≡ Legal c → x ≡ scanned f c m from → x ≡ None → v ≡ after_command (Legal c) (control_of m) → Made f d m (stored m v) Consumed
   made-consumed {c} {x} s e g h =
       rw s
       (record {
@@ -61,11 +60,11 @@ module _ {f : Features} {d : Decoded} {from : ℕ} {m : Memory} (r : Ready f d f
 pub record Removes (f : Features) (d : Decoded) (m : Memory) (i : ℕ) : Type 0 where
   pub command : Command
   pub legal : d ≡ Legal command
-  pub lowest_row : scan f command m (rows_in m) 0 ≡ At i
+  pub lowest_row : scan f command m (rows_in m) 0 ≡ Some i
 
-found_row : (c : Command) (w i : ℕ) (x : Found) → by_scan c w x ≡ Stores (Word0 i) 0 Remove → x ≡ At i
-found_row c w i (At j) e = let s : j ≡ i = cc in rw s
-found_row c w i Nothing e = let z : ◌≡◌ {A = ℕ} 0 1 = cc in absurd (omega arith)
+found_row : (c : Command) (w i : ℕ) (x : Option ℕ) → by_scan c w x ≡ Stores (Word0 i) 0 Remove → x ≡ Some i
+found_row c w i (Some j) e = let s : j ≡ i = cc in rw s
+found_row c w i None e = let z : ◌≡◌ {A = ℕ} 0 1 = cc in absurd (omega arith)
 
 pub due-removes : (f : Features) (d : Decoded) (m : Memory) (i : ℕ) → due_for f d m ≡ store_of d m (Removed i) → Removes f d m i
 unfolding due_for

@@ -7,7 +7,7 @@ use Prim.Native.Nat.{ℕ, ◌+◌, ◌-◌, ◌≤◌, ◌<◌, min, max}
 use native.Mathlib.Decide.{ℕ_discrete}
 use native.Mathlib.Omega.{arith}
 use Rattle.words.specs.Search.{lowest}
-use Rattle.words.specs.declared.Found.TheVariants.{At, Nothing}
+use Rattle.std.specs.Prelude.{None, Some}
 use Rattle.words.proofs.Search.{Lowest, Searching, Wider, over_none, from_zero, found, is_none, passes_over, lowest-same}
 use Rattle.commands.specs.declared.Features.{Features}
 use Rattle.commands.specs.declared.Command.{Command}
@@ -25,12 +25,12 @@ use Rattle.scope_screens.proofs.LetThrough.{unscoped}
 use Rattle.due.specs.Due.{scan}
 
 module _ (f : Features) (c : Command) (m : Memory) where
-  pub other-finds-nothing : (n i : ℕ) → i ≤ n → invalidates c ≡ false → scan f c m (n - i) i ≡ Nothing
+  pub other-finds-nothing : (n i : ℕ) → i ≤ n → invalidates c ≡ false → scan f c m (n - i) i ≡ None
   unfolding idle
   other-finds-nothing n i h e = is_none (scoped_at f c m) n i h (λ j a b. idle-unscoped f c m j (rw e))
 
   -- what a scan from the first row finds is the lowest row in scope
-  pub lowest-scoped : (n i : ℕ) → scan f c m n 0 ≡ At i → Lowest (scoped_at f c m) n 0 i
+  pub lowest-scoped : (n i : ℕ) → scan f c m n 0 ≡ Some i → Lowest (scoped_at f c m) n 0 i
   lowest-scoped n i e = found (scoped_at f c m) n 0 i (omega arith) (sym (from_zero (scoped_at f c m) n) ∙ e)
 
 -- a row of the second table, by the place of all rows

@@ -1,11 +1,9 @@
 -- Document 01, One run: what single store is due, from features, queue and memory alone.
 -- Assumes nothing.
-use Rattle.std.specs.Prelude.{◌≡◌, true, List, [], ◌∷◌, ℕ, ◌-◌, ◌≤◌, eqb}
+use Rattle.std.specs.Prelude.{◌≡◌, true, List, [], ◌∷◌, ℕ, ◌-◌, ◌≤◌, eqb, None, Option, Some}
 use Rattle.words.specs.Choice.{pick}
 use Rattle.words.specs.Ranges.{Range}
 use Rattle.words.specs.Search.{lowest}
-use Rattle.words.specs.declared.Found.{Found}
-use Rattle.words.specs.declared.Found.TheVariants.{At, Nothing}
 use Rattle.control.specs.Control as control
 use Rattle.control.specs.declared.Rest.{Rest}
 use Rattle.control.specs.declared.Standing.{Standing}
@@ -40,11 +38,11 @@ pub record Among (m : Memory) (from to : ℕ) : Type 0 where
   pub high : to ≤ rows_in m
 
 -- the lowest row in scope, of the n from row i on
-abbrev pub scan : Features → Command → Memory → ℕ → ℕ → Found
+abbrev pub scan : Features → Command → Memory → ℕ → ℕ → Option ℕ
 scan f command m n i = lowest (scoped_at f command m) n i
 
 -- and of all from row i on
-abbrev pub scanned : Features → Command → Memory → ℕ → Found
+abbrev pub scanned : Features → Command → Memory → ℕ → Option ℕ
 scanned f command m i = scan f command m (rows_in m - i) i
 
 -- the control word after a command is consumed, and the parts of it that this touches: RD goes forward, and a CMD_SYNC with
@@ -58,9 +56,9 @@ abbrev pub consumes : List Range
 consumes = control.rd_bits ∷ control.pending_bits ∷ []
 
 -- a legal command: the lowest row in scope goes; once there is none, the command is consumed
-abbrev pub by_scan : Command → ℕ → Found → Due
-by_scan command w (At i) = Stores (Word0 i) 0 Remove
-by_scan command w Nothing = Stores Control (after_command (Legal command) w) (Consume (syncs_of (Legal command)))
+abbrev pub by_scan : Command → ℕ → Option ℕ → Due
+by_scan command w (Some i) = Stores (Word0 i) 0 Remove
+by_scan command w None = Stores Control (after_command (Legal command) w) (Consume (syncs_of (Legal command)))
 
 -- Document 02, T-09: the error tells the command's reason and its slot
 abbrev pub raising_at : Reason → ℕ → Raising

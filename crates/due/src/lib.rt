@@ -13,7 +13,6 @@ ghost use Rattle.due.specs.Due.{Among, scanned, after_command, Ready, Made};
 ghost use Rattle.commands.specs.declared.Decoded.TheVariants.{Legal};
 
 use commands::{Command, Decoded, Features, Reason};
-use words::Found;
 
 // Document 02, T-09: what a raised error tells: why the command is illegal, and the slot that it is in.
 #[derive(Clone, Copy)]
@@ -69,7 +68,7 @@ fn find_region(
     leaf: bool,
     from: usize,
     to: usize,
-) -> Found
+) -> Option<usize>
     requires { (from ≤ to) × (min rows to ≤ from) × (2 * (to - rows) ≤ length table.now) }
     ensures { result ≡ lowest (λ i. in_region (row_at table.now (i - rows)) page size leaf) (to - from) from }
 {
@@ -79,11 +78,11 @@ fn find_region(
     while i < to {
         let row = regions::row_at(table, i - rows);
         if regions::in_region_of(row, first, bytes, page, size, leaf) {
-            return Found::At(i);
+            return Some(i);
         }
         i += 1;
     }
-    Found::Nothing
+    None
 }
 
 // Of a command about the second table: no row before it is looked at.
@@ -94,7 +93,7 @@ fn find_second(
     c: Command,
     from: usize,
     to: usize,
-) -> Found
+) -> Option<usize>
     requires { Among (both kept.now table.now) from to × (is_regional c ≡ true) }
     ensures { result ≡ lowest (scoped_at f c (both kept.now table.now)) (to - from) from }
 {
@@ -105,15 +104,15 @@ fn find_second(
     }
     while i < to {
         if region_scopes::in_table(c, regions::row_at(table, i - rows)) {
-            return Found::At(i);
+            return Some(i);
         }
         i += 1;
     }
-    Found::Nothing
+    None
 }
 
 // Of any other: only rows that its screen lets through are asked, and none of the second table.
-fn find_first(kept: &[u64], table: &[u64], f: Features, c: Command, from: usize, to: usize) -> Found
+fn find_first(kept: &[u64], table: &[u64], f: Features, c: Command, from: usize, to: usize) -> Option<usize>
     requires { Among (both kept.now table.now) from to × (is_regional c ≡ false) }
     ensures { result ≡ lowest (scoped_at f c (both kept.now table.now)) (to - from) from }
 {
@@ -121,15 +120,15 @@ fn find_first(kept: &[u64], table: &[u64], f: Features, c: Command, from: usize,
     let end = lesser(kept.len() / 4, to);
     let mut i = from;
     while i < end {
-        let Found::At(row) = screens::next(kept, s, i, end) else {
-            return Found::Nothing;
+        let Some(row) = screens::next(kept, s, i, end) else {
+            return None;
         };
         if scopes::in_scope(f, c, image::row_at(kept, row)) {
-            return Found::At(row);
+            return Some(row);
         }
         i = row + 1;
     }
-    Found::Nothing
+    None
 }
 
 // The lowest row from `from` on and below `to` that is in scope.
@@ -140,7 +139,7 @@ pub fn find_in(
     c: Command,
     from: usize,
     to: usize,
-) -> Found
+) -> Option<usize>
     requires { Among (both kept.now table.now) from to }
     ensures { result ≡ lowest (scoped_at f c (both kept.now table.now)) (to - from) from }
 {
@@ -151,12 +150,12 @@ pub fn find_in(
 }
 
 // The lowest row from `from` on that is in scope. A command that is no invalidation is told before it is handed on.
-fn find_from(kept: &[u64], table: &[u64], f: Features, c: Command, from: usize) -> Found
+fn find_from(kept: &[u64], table: &[u64], f: Features, c: Command, from: usize) -> Option<usize>
     requires { Whole (both kept.now table.now) × (from ≤ rows_in (both kept.now table.now)) }
     ensures { result ≡ scanned f c (both kept.now table.now) from }
 {
     if !scopes::invalidates(c) {
-        return Found::Nothing;
+        return None;
     }
     find_in(kept, table, f, c, from, kept.len() / 4 + table.len() / 2)
 }
@@ -180,7 +179,7 @@ pub fn step(kept: &mut [u64], table: &mut [u64], f: Features, d: Decoded, from: 
 {
     match d {
         Decoded::Legal(c) => match find_from(&*kept, &*table, f, c, from) {
-            Found::At(i) => {
+            Some(i) => {
                 let rows = kept.len() / 4;
                 if i < rows {
                     kept[4 * i + 1] = 0;
@@ -189,7 +188,7 @@ pub fn step(kept: &mut [u64], table: &mut [u64], f: Features, d: Decoded, from: 
                 table[2 * (i - rows)] = 0;
                 Stepped::Removed(i)
             }
-            Found::Nothing => {
+            None => {
                 let w = kept[0];
                 kept[0] = after_command(c, w);
                 Stepped::Consumed

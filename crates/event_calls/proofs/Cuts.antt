@@ -13,15 +13,13 @@ use Rattle.words.specs.Stores.{Store, after_stores}
 use Rattle.words.proofs.Stores.{after_none, after-all, over_cut}
 use Rattle.words.proofs.Truth.{less_or_not}
 use Rattle.events.specs.declared.Refusal.{Refusal}
-use Rattle.events.specs.declared.Checked.{Checked}
-use Rattle.events.specs.declared.Checked.TheVariants.{Accepted, Refused}
+use Rattle.std.specs.Prelude.{Err, Ok, Result}
+use Rattle.event_calls.specs.declared.Writing.{Writing}
 use Rattle.events.specs.Word.{outstanding, is_full}
 use Rattle.events.specs.Events.{index_of, record_of, check}
 use Rattle.events.proofs.Checks.{Accepts, accepts, says}
 use Rattle.event_calls.specs.declared.WriteEnd.{WriteEnd}
 use Rattle.event_calls.specs.declared.WriteEnd.TheVariants.{Cut}
-use Rattle.event_calls.specs.declared.WriteAnswer.{WriteAnswer}
-use Rattle.event_calls.specs.declared.WriteAnswer.TheVariants.{Refused as NotWritten, Done}
 use Rattle.event_calls.specs.Calls.{drop_stores, due_stores, end_of, write}
 use Rattle.event_calls.specs.Told.{Ends, rewritten, WritesCut, none, one}
 use Rattle.event_calls.proofs.Order.{report-cut, report-all}
@@ -46,7 +44,7 @@ module _ (m : List ℕ) (ss : List Store) (end : WriteEnd) (uncut : end ≡ Cut 
   all_from : (Ends Cut (done m ss end k).answer → ⊥) → length ss ≤ k
   all_from last = ⊎_elim (λ h. absurd (last (rw (report-cut ss end k h) refl))) (λ h. h) (less_or_not k (length ss))
 
-  all_same : length ss ≤ k → done m ss end k ≡ with (Done (record { end = end; stores = length ss })) (after_stores (length ss) ss m)
+  all_same : length ss ≤ k → done m ss end k ≡ with (Ok (record { end = end; stores = length ss })) (after_stores (length ss) ss m)
   all_same h = rw (report-all ss end k h, after-all k ss m h)
 
 -- a drop makes one store at most
@@ -79,22 +77,22 @@ module _ (bytes : List ℕ) where
 
   -- a write is refused whatever its allowance is, or makes the stores that are due
   data Goes (m : List ℕ) : Type 0 where
-    stops : (why : Refusal) → ((k : ℕ) → write m bytes k ≡ with (NotWritten why) m) → Goes m
+    stops : (why : Refusal) → ((k : ℕ) → write m bytes k ≡ with (Err why) m) → Goes m
     goes : (n : ℕ) → Accepts m n → ((k : ℕ) → write m bytes k ≡ done m (due m) (ends m) k) → Goes m
 
   which-way : (m : List ℕ) → Goes m
   which-way m = by_check (check m) refl
     where
-      by_check : (c : Checked) → check m ≡ c → Goes m
-      by_check (Refused why) e = stops why (λ k. write-refused m bytes k why e)
-      by_check (Accepted n) e = goes n ((says m).accepted n e) (λ k. write-due m bytes k n e)
+      by_check : (c : Result ℕ Refusal) → check m ≡ c → Goes m
+      by_check (Err why) e = stops why (λ k. write-refused m bytes k why e)
+      by_check (Ok n) e = goes n ((says m).accepted n e) (λ k. write-due m bytes k n e)
 
   -- two allowances that suffice give the same
   uncut-same : (m : List ℕ) (k j : ℕ) → (Ends Cut (write m bytes k).answer → ⊥) → (Ends Cut (write m bytes j).answer → ⊥) → write m bytes k ≡ write m bytes j
   uncut-same m k j last uncut = by_way (which-way m)
     where
       whole : (a : ℕ) → ((b : ℕ) → write m bytes b ≡ done m (due m) (ends m) b) → (Ends Cut (write m bytes a).answer → ⊥)
-          → write m bytes a ≡ with (Done (record { end = ends m; stores = length (due m) })) (after_stores (length (due m)) (due m) m)
+          → write m bytes a ≡ with (Ok (record { end = ends m; stores = length (due m) })) (after_stores (length (due m)) (due m) m)
       whole a e u =
           e a ∙ all_same m (due m) (ends m) (end_uncut (index_of m)) a (all_from m (due m) (ends m) (end_uncut (index_of m)) a (rw (e a) at u))
 
@@ -114,12 +112,12 @@ module _ (bytes : List ℕ) where
           let m' = after_stores k ss m in
           let below : k < length ss = cut_below m ss (ends m) (end_uncut (index_of m)) k (rw (e k) at cut) in
           let enough : length ss ≤ j = all_from m ss (ends m) (end_uncut (index_of m)) j (rw (e j) at uncut) in
-          let left : (write m bytes k).memory ≡ m' = ap (λ (o : Outcome (List ℕ) WriteAnswer). o.memory) (e k) in
+          let left : (write m bytes k).memory ≡ m' = ap (λ (o : Outcome (List ℕ) (Result Writing Refusal)). o.memory) (e k) in
           let b : Accepts m' n = rw (← left) (write-accepted m bytes k n a) in
           ap (λ (l : List ℕ). write l bytes j) left ∙ write-due m' bytes j n (accepts m' n b)
           ∙ ap (λ (v : ℕ). done m' (due_stores v (record_of bytes)) (end_of v) j) (index-waits m n k a below)
           ∙ all_same m' ss (ends m) (end_uncut (index_of m)) j enough
-          ∙ ap (with (Done (record { end = ends m; stores = length ss }))) (over_cut k ss m (omega arith))
+          ∙ ap (with (Ok (record { end = ends m; stores = length ss }))) (over_cut k ss m (omega arith))
           ∙ sym (e j ∙ all_same m ss (ends m) (end_uncut (index_of m)) j enough)
 
   -- any number of cuts at any allowances, then a write that is not cut, refused or not

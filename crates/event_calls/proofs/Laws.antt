@@ -12,8 +12,7 @@ use Rattle.words.specs.Stores.{Store, after_stores}
 use Rattle.words.proofs.Truth.{less_or_not}
 use Rattle.events.specs.declared.Record.{Record}
 use Rattle.events.specs.declared.Refusal.{Refusal}
-use Rattle.events.specs.declared.Checked.{Checked}
-use Rattle.events.specs.declared.Checked.TheVariants.{Accepted, Refused}
+use Rattle.std.specs.Prelude.{Err, Ok, Result}
 use Rattle.events.specs.Word.{rd_bits, wr_bits, outstanding, is_full, free}
 use Rattle.events.specs.Stores.{written, flipped}
 use Rattle.events.specs.Events.{index_of, record_of, waiting, check}
@@ -24,8 +23,6 @@ use Rattle.events.proofs.Waiting.{stored-word, flag-waiting}
 use Rattle.event_calls.specs.declared.WriteEnd.{WriteEnd}
 use Rattle.event_calls.specs.declared.WriteEnd.TheVariants.{Stored, Dropped, Cut}
 use Rattle.event_calls.specs.declared.Writing.{Writing}
-use Rattle.event_calls.specs.declared.WriteAnswer.{WriteAnswer}
-use Rattle.event_calls.specs.declared.WriteAnswer.TheVariants.{Refused as NotWritten, Done}
 use Rattle.event_calls.specs.Calls.{write_stores, drop_stores, Stores, write}
 use Rattle.event_calls.specs.Told.{queue_by_write, overflow_by_write}
 use Rattle.event_calls.proofs.Order.{report-cut, report-all}
@@ -38,13 +35,13 @@ index-stored m n v a f =
     record { size = record { words = length-set m 0 v ∙ a.size.words; few = a.size.few }; index = rw (stored-word m n a v) f }
 
 -- a write that ended so after so many stores, and left the memory m'
-abbrev ended : WriteEnd → ℕ → List ℕ → Outcome (List ℕ) WriteAnswer
-ended end k m' = with (Done (record { end = end; stores = k })) m'
+abbrev ended : WriteEnd → ℕ → List ℕ → Outcome (List ℕ) (Result Writing Refusal)
+ended end k m' = with (Ok (record { end = end; stores = k })) m'
 
 -- All that a write under an allowance of k can be. Refused. On a full ring, by the overflow flag: dropped with it, or with the
 -- store that flips it, or cut before that. Else the five stores, of which a cut makes the first k.
 pub data Wrote (m bytes : List ℕ) (k : ℕ) : Type 0 where
-  refuses : (why : Refusal) → write m bytes k ≡ with (NotWritten why) m → Wrote m bytes k
+  refuses : (why : Refusal) → write m bytes k ≡ with (Err why) m → Wrote m bytes k
   drops : (n : ℕ) → Accepts m n → is_full (index_of m) ≡ true → outstanding (index_of m) ≡ true → write m bytes k ≡ ended Dropped 0 m → Wrote m bytes k
   flips : (n : ℕ) → Accepts m n → is_full (index_of m) ≡ true → outstanding (index_of m) ≡ false → (k ≡ 0 → ⊥)
       → write m bytes k ≡ ended Dropped 1 (set m 0 (flipped (index_of m))) → Wrote m bytes k
@@ -66,7 +63,7 @@ module _ (m bytes : List ℕ) (k : ℕ) where
   due = write_stores (free w) r (written w)
 
   module _ (n : ℕ) (a : Accepts m n) where
-    by_drop : is_full w ≡ true → {m' : List ℕ} {d : Writing} → Stores (drop_stores w) Dropped k m m' d → write m bytes k ≡ with (Done d) m'
+    by_drop : is_full w ≡ true → {m' : List ℕ} {d : Writing} → Stores (drop_stores w) Dropped k m m' d → write m bytes k ≡ with (Ok d) m'
     by_drop full s = write-drops m bytes k n (accepts m n a) full ∙ rw (s.reports, s.leaves)
 
     -- full: dropped
@@ -99,9 +96,9 @@ module _ (m bytes : List ℕ) (k : ℕ) where
       by_room n a true t = by_flag n a t (outstanding w) refl
       by_room n a false t = ⊎_elim (λ h. stores-part n a t h (room-part n a t h)) (λ h. stores n a t h (room_whole n a t h)) (less_or_not k 5)
 
-      by_check : (c : Checked) → check m ≡ c → Wrote m bytes k
-      by_check (Refused why) e = refuses why (write-refused m bytes k why e)
-      by_check (Accepted n) e = by_room n ((says m).accepted n e) (is_full w) refl
+      by_check : (c : Result ℕ Refusal) → check m ≡ c → Wrote m bytes k
+      by_check (Err why) e = refuses why (write-refused m bytes k why e)
+      by_check (Ok n) e = by_room n ((says m).accepted n e) (is_full w) refl
 
   -- the records that wait after it are those that its answer tells: those before, and behind them the new one exactly if it ended Stored
   pub write-queue : waiting (write m bytes k).memory ≡ queue_by_write r (write m bytes k).answer (waiting m)
@@ -148,11 +145,11 @@ module _ (m bytes : List ℕ) (k : ℕ) where
       by_case (stores-part n' a room h e) = same n' a (rw e (stored-accepted m n' r a room k))
 
   -- a refusal stores nothing
-  pub write-refused_leaves : (why : Refusal) → (write m bytes k).answer ≡ NotWritten why → (write m bytes k).memory ≡ m
+  pub write-refused_leaves : (why : Refusal) → (write m bytes k).answer ≡ Err why → (write m bytes k).memory ≡ m
   write-refused_leaves why q = by_case wrote
     where
-      carried : {d : Writing} {m' : List ℕ} → write m bytes k ≡ with (Done d) m' → (write m bytes k).memory ≡ m
-      carried e = let z : ◌≡◌ {A = ℕ} 0 1 = cc (ap (λ (o : Outcome (List ℕ) WriteAnswer). o.answer) e) in absurd (omega arith)
+      carried : {d : Writing} {m' : List ℕ} → write m bytes k ≡ with (Ok d) m' → (write m bytes k).memory ≡ m
+      carried e = let z : ◌≡◌ {A = ℕ} 0 1 = cc (ap (λ (o : Outcome (List ℕ) (Result Writing Refusal)). o.answer) e) in absurd (omega arith)
 
       by_case : Wrote m bytes k → (write m bytes k).memory ≡ m
       by_case (refuses why' e) = rw e

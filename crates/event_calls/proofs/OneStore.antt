@@ -8,8 +8,8 @@ use native.Mathlib.Omega.{arith}
 use lib.ListN.{set, drop}
 use Rattle.words.specs.Outcomes.{Outcome, with}
 use Rattle.events.specs.declared.Record.{Record}
-use Rattle.events.specs.declared.Checked.{Checked}
-use Rattle.events.specs.declared.Checked.TheVariants.{Accepted, Refused}
+use Rattle.std.specs.Prelude.{Err, Ok, Result, ⊤}
+use Rattle.events.specs.declared.Refusal.{Refusal}
 use Rattle.events.specs.Word.{rd_bits, wr_bits, outstanding, is_empty, oldest}
 use Rattle.events.specs.Stores.{read_out, acknowledged}
 use Rattle.events.specs.Events.{index_of, record_at, waiting, check}
@@ -19,12 +19,8 @@ use Rattle.events.proofs.Index.{read-outstanding, read-formed, acknowledged-keep
 use Rattle.events.proofs.Waiting.{stored-word, flag-waiting, read-waiting}
 use Rattle.event_calls.specs.declared.ReadRefusal.{ReadRefusal}
 use Rattle.event_calls.specs.declared.ReadRefusal.TheVariants.{Recorder as OfRecorder, Empty}
-use Rattle.event_calls.specs.declared.ReadAnswer.{ReadAnswer}
-use Rattle.event_calls.specs.declared.ReadAnswer.TheVariants.{Refused as NotRead, Oldest}
 use Rattle.event_calls.specs.declared.AcknowledgeRefusal.{AcknowledgeRefusal}
 use Rattle.event_calls.specs.declared.AcknowledgeRefusal.TheVariants.{Recorder as ByRecorder, NoOverflow}
-use Rattle.event_calls.specs.declared.AcknowledgeAnswer.{AcknowledgeAnswer}
-use Rattle.event_calls.specs.declared.AcknowledgeAnswer.TheVariants.{Refused as NotAcknowledged, Acknowledged}
 use Rattle.event_calls.specs.Calls.{read, acknowledge}
 use Rattle.event_calls.specs.Told.{queue_by_read, overflow_by_acknowledge}
 use Rattle.event_calls.proofs.Cases.{read-refused, read-empty, read-stores, acknowledge-refused, acknowledge-none, acknowledge-stores}
@@ -54,35 +50,35 @@ module _ (m : List ℕ) where
   w = index_of m
 
   abbrev pub ReadWay : Type 0
-  ReadWay = Way m (read m) NotRead (Oldest (record_at m (oldest w))) (is_empty w) false (read_out w)
+  ReadWay = Way m (read m) Err (Ok (record_at m (oldest w))) (is_empty w) false (read_out w)
 
   pub read-way : ReadWay
   read-way = by_check (check m) refl
     where
-      by_test : (n : ℕ) → check m ≡ Accepted n → (t : Bool) → is_empty w ≡ t → ReadWay
+      by_test : (n : ℕ) → check m ≡ Ok n → (t : Bool) → is_empty w ≡ t → ReadWay
       by_test n e true t = stops Empty (read-empty m n e t)
       by_test n e false t = stores n ((says m).accepted n e) t (read-stores m n e t)
 
-      by_check : (c : Checked) → check m ≡ c → ReadWay
-      by_check (Refused why) e = stops (OfRecorder why) (read-refused m why e)
-      by_check (Accepted n) e = by_test n e (is_empty w) refl
+      by_check : (c : Result ℕ Refusal) → check m ≡ c → ReadWay
+      by_check (Err why) e = stops (OfRecorder why) (read-refused m why e)
+      by_check (Ok n) e = by_test n e (is_empty w) refl
 
-  pub read-refused-leaves : (why : ReadRefusal) → (read m).answer ≡ NotRead why → (read m).memory ≡ m
+  pub read-refused-leaves : (why : ReadRefusal) → (read m).answer ≡ Err why → (read m).memory ≡ m
   read-refused-leaves why q = refusal-stores-nothing read-way (λ y e. never (cc)) why q
 
   pub read-accepted : (n : ℕ) → Accepts m n → Accepts (read m).memory n
   read-accepted n a = stays-accepted read-way (λ k b t. read-formed k w b.size.few b.index t) n a
 
   -- what is read was the first of the records, and the rest stay in their order
-  pub read-oldest : (r : Record) → (read m).answer ≡ Oldest r → waiting m ≡ r ∷ waiting (read m).memory
+  pub read-oldest : (r : Record) → (read m).answer ≡ Ok r → waiting m ≡ r ∷ waiting (read m).memory
   read-oldest r q = by_way read-way
     where
       by_way : ReadWay → waiting m ≡ r ∷ waiting (read m).memory
-      by_way (stops why e) = never (cc (ap (λ (o : Outcome (List ℕ) ReadAnswer). o.answer) e))
+      by_way (stops why e) = never (cc (ap (λ (o : Outcome (List ℕ) (Result Record ReadRefusal)). o.answer) e))
       by_way (stores n a t e) =
-          let same : record_at m (oldest w) ≡ r = cc (ap (λ (o : Outcome (List ℕ) ReadAnswer). o.answer) e) in
+          let same : record_at m (oldest w) ≡ r = cc (ap (λ (o : Outcome (List ℕ) (Result Record ReadRefusal)). o.answer) e) in
           read-waiting m n a t ∙ ap (λ (x : Record). x ∷ waiting (set m 0 (read_out w))) same
-          ∙ ap (λ (o : Outcome (List ℕ) ReadAnswer). r ∷ waiting o.memory) (sym e)
+          ∙ ap (λ (o : Outcome (List ℕ) (Result Record ReadRefusal)). r ∷ waiting o.memory) (sym e)
 
   pub read-queue : waiting (read m).memory ≡ queue_by_read (read m).answer (waiting m)
   read-queue = by_way read-way
@@ -99,20 +95,20 @@ module _ (m : List ℕ) where
       by_way (stores n a t e) = rw (e, stored-word m n a (read_out w)) (read-outstanding w)
 
   abbrev pub AcknowledgeWay : Type 0
-  AcknowledgeWay = Way m (acknowledge m) NotAcknowledged Acknowledged (outstanding w) true (acknowledged w)
+  AcknowledgeWay = Way m (acknowledge m) Err (Ok tt) (outstanding w) true (acknowledged w)
 
   pub acknowledge-way : AcknowledgeWay
   acknowledge-way = by_check (check m) refl
     where
-      by_test : (n : ℕ) → check m ≡ Accepted n → (t : Bool) → outstanding w ≡ t → AcknowledgeWay
+      by_test : (n : ℕ) → check m ≡ Ok n → (t : Bool) → outstanding w ≡ t → AcknowledgeWay
       by_test n e false t = stops NoOverflow (acknowledge-none m n e t)
       by_test n e true t = stores n ((says m).accepted n e) t (acknowledge-stores m n e t)
 
-      by_check : (c : Checked) → check m ≡ c → AcknowledgeWay
-      by_check (Refused why) e = stops (ByRecorder why) (acknowledge-refused m why e)
-      by_check (Accepted n) e = by_test n e (outstanding w) refl
+      by_check : (c : Result ℕ Refusal) → check m ≡ c → AcknowledgeWay
+      by_check (Err why) e = stops (ByRecorder why) (acknowledge-refused m why e)
+      by_check (Ok n) e = by_test n e (outstanding w) refl
 
-  pub acknowledge-refused-leaves : (why : AcknowledgeRefusal) → (acknowledge m).answer ≡ NotAcknowledged why → (acknowledge m).memory ≡ m
+  pub acknowledge-refused-leaves : (why : AcknowledgeRefusal) → (acknowledge m).answer ≡ Err why → (acknowledge m).memory ≡ m
   acknowledge-refused-leaves why q = refusal-stores-nothing acknowledge-way (λ y e. never (cc)) why q
 
   pub acknowledge-accepted : (n : ℕ) → Accepts m n → Accepts (acknowledge m).memory n
@@ -135,11 +131,11 @@ module _ (m : List ℕ) where
       by_way (stores n a t e) = rw (e, stored-word m n a (acknowledged w)) (acknowledged-quiet w)
 
   -- acknowledged, there is none to acknowledge
-  pub acknowledge-again : (acknowledge m).answer ≡ Acknowledged → acknowledge (acknowledge m).memory ≡ with (NotAcknowledged NoOverflow) (acknowledge m).memory
+  pub acknowledge-again : (acknowledge m).answer ≡ Ok tt → acknowledge (acknowledge m).memory ≡ with (Err NoOverflow) (acknowledge m).memory
   acknowledge-again q = by_way acknowledge-way
     where
-      by_way : AcknowledgeWay → acknowledge (acknowledge m).memory ≡ with (NotAcknowledged NoOverflow) (acknowledge m).memory
-      by_way (stops why e) = never (cc (ap (λ (o : Outcome (List ℕ) AcknowledgeAnswer). o.answer) e))
+      by_way : AcknowledgeWay → acknowledge (acknowledge m).memory ≡ with (Err NoOverflow) (acknowledge m).memory
+      by_way (stops why e) = never (cc (ap (λ (o : Outcome (List ℕ) (Result ⊤ AcknowledgeRefusal)). o.answer) e))
       by_way (stores n a t e) =
           acknowledge-none (acknowledge m).memory n (accepts (acknowledge m).memory n (acknowledge-accepted n a))
-          (acknowledge-overflow ∙ ap (λ (x : AcknowledgeAnswer). overflow_by_acknowledge x (outstanding w)) q)
+          (acknowledge-overflow ∙ ap (λ (x : Result ⊤ AcknowledgeRefusal). overflow_by_acknowledge x (outstanding w)) q)

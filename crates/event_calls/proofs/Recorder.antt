@@ -19,11 +19,11 @@ use Rattle.events.proofs.Waiting.{stored-word}
 use Rattle.events.proofs.Counts.{waiting-fits, full-count, count-full, empty-none, none-empty, free-oldest}
 use Rattle.event_calls.specs.declared.WriteEnd.{WriteEnd}
 use Rattle.event_calls.specs.declared.WriteEnd.TheVariants.{Stored, Dropped, Cut}
-use Rattle.event_calls.specs.declared.WriteAnswer.{WriteAnswer}
-use Rattle.event_calls.specs.declared.WriteAnswer.TheVariants.{Refused as NotWritten, Done}
+use Rattle.std.specs.Prelude.{Err, Ok, Result}
+use Rattle.event_calls.specs.declared.Writing.{Writing}
+use Rattle.events.specs.declared.Refusal.{Refusal}
+use Rattle.event_calls.specs.declared.ReadRefusal.{ReadRefusal}
 use Rattle.event_calls.specs.declared.ReadRefusal.TheVariants.{Empty}
-use Rattle.event_calls.specs.declared.ReadAnswer.{ReadAnswer}
-use Rattle.event_calls.specs.declared.ReadAnswer.TheVariants.{Refused as NotRead, Oldest}
 use Rattle.event_calls.specs.Calls.{write, read, acknowledge}
 use Rattle.event_calls.specs.Told.{by_end, queue_by_write, overflow_by_end, overflow_by_write, Call, Write, Read, Acknowledge, leaves, queue_by, overflow_by, leaves_all, queue_all, overflow_all, Ends}
 use Rattle.event_calls.proofs.Cases.{read-empty, read-stores}
@@ -31,31 +31,31 @@ use Rattle.event_calls.proofs.Laws.{full_told, full_tells, full_cut, room_whole,
 use Rattle.event_calls.proofs.OneStore.{read-accepted, read-oldest, read-queue, read-overflow, acknowledge-accepted, acknowledge-queue, acknowledge-overflow}
 
 -- what the answer's end says of the queue and of the overflow
-queue_as : (end : WriteEnd) (r : Record) (answer : WriteAnswer) (q : List Record) → Ends end answer → queue_by_write r answer q ≡ by_end r end q
-queue_as end r (NotWritten why) q e = absurd e
-queue_as end r (Done writing) q e = ap (λ (x : WriteEnd). by_end r x q) e
+queue_as : (end : WriteEnd) (r : Record) (answer : Result Writing Refusal) (q : List Record) → Ends end answer → queue_by_write r answer q ≡ by_end r end q
+queue_as end r (Err why) q e = absurd e
+queue_as end r (Ok writing) q e = ap (λ (x : WriteEnd). by_end r x q) e
 
-overflow_as : (end : WriteEnd) (answer : WriteAnswer) (was : Bool) → Ends end answer → overflow_by_write answer was ≡ overflow_by_end end was
-overflow_as end (NotWritten why) was e = absurd e
-overflow_as end (Done writing) was e = ap (λ (x : WriteEnd). overflow_by_end x was) e
+overflow_as : (end : WriteEnd) (answer : Result Writing Refusal) (was : Bool) → Ends end answer → overflow_by_write answer was ≡ overflow_by_end end was
+overflow_as end (Err why) was e = absurd e
+overflow_as end (Ok writing) was e = ap (λ (x : WriteEnd). overflow_by_end x was) e
 
-one_of : (r : Record) (answer : WriteAnswer) (q : List Record) → (queue_by_write r answer q ≡ q) ⊎ (queue_by_write r answer q ≡ q ++ (r ∷ []))
-one_of r (NotWritten why) q = inl refl
-one_of r (Done writing) q = each_end writing.end refl
+one_of : (r : Record) (answer : Result Writing Refusal) (q : List Record) → (queue_by_write r answer q ≡ q) ⊎ (queue_by_write r answer q ≡ q ++ (r ∷ []))
+one_of r (Err why) q = inl refl
+one_of r (Ok writing) q = each_end writing.end refl
   where
     each_end : (end : WriteEnd) → writing.end ≡ end → (by_end r writing.end q ≡ q) ⊎ (by_end r writing.end q ≡ q ++ (r ∷ []))
     each_end Stored e = inr (rw e)
     each_end Dropped e = inl (rw e)
     each_end Cut e = inl (rw e)
 
-abbrev told : Outcome (List ℕ) WriteAnswer → WriteAnswer
+abbrev told : Outcome (List ℕ) (Result Writing Refusal) → Result Writing Refusal
 told o = o.answer
 
 module _ (m bytes : List ℕ) (k : ℕ) where
   abbrev m' : List ℕ
   m' = (write m bytes k).memory
 
-  abbrev answer : WriteAnswer
+  abbrev answer : Result Writing Refusal
   answer = (write m bytes k).answer
 
   -- Stored appends exactly the record
@@ -88,49 +88,49 @@ module _ (m bytes : List ℕ) (k : ℕ) where
     has_room : length (waiting m) < slots n → is_full (index_of m) ≡ false
     has_room h = ⊎_elim (λ t. absurd (omega (arith, full-count m n a t))) (λ t. t) (decided (is_full (index_of m)))
 
-    pub ends-stored : length (waiting m) < slots n → 5 ≤ k → answer ≡ Done (record { end = Stored; stores = 5 })
+    pub ends-stored : length (waiting m) < slots n → 5 ≤ k → answer ≡ Ok (record { end = Stored; stores = 5 })
     ends-stored room h = ap told (room_whole m bytes k n a (has_room room) h)
 
-    pub ends-cut : length (waiting m) < slots n → k < 5 → answer ≡ Done (record { end = Cut; stores = k })
+    pub ends-cut : length (waiting m) < slots n → k < 5 → answer ≡ Ok (record { end = Cut; stores = k })
     ends-cut room h = ap told (room-part m bytes k n a (has_room room) h)
 
     -- with none free it is dropped: with no store if an overflow is outstanding, at any allowance; else with one, or cut before that
-    pub ends-dropped : length (waiting m) ≡ slots n → outstanding (index_of m) ≡ true → answer ≡ Done (record { end = Dropped; stores = 0 })
+    pub ends-dropped : length (waiting m) ≡ slots n → outstanding (index_of m) ≡ true → answer ≡ Ok (record { end = Dropped; stores = 0 })
     ends-dropped full t = ap told (full_told m bytes k n a (count-full m n a full) t)
 
-    pub ends-flipped : length (waiting m) ≡ slots n → outstanding (index_of m) ≡ false → 1 ≤ k → answer ≡ Done (record { end = Dropped; stores = 1 })
+    pub ends-flipped : length (waiting m) ≡ slots n → outstanding (index_of m) ≡ false → 1 ≤ k → answer ≡ Ok (record { end = Dropped; stores = 1 })
     ends-flipped full t h = ap told (full_tells m bytes k n a (count-full m n a full) t (omega arith))
 
-    pub ends-unflipped : length (waiting m) ≡ slots n → outstanding (index_of m) ≡ false → k ≡ 0 → answer ≡ Done (record { end = Cut; stores = 0 })
+    pub ends-unflipped : length (waiting m) ≡ slots n → outstanding (index_of m) ≡ false → k ≡ 0 → answer ≡ Ok (record { end = Cut; stores = 0 })
     ends-unflipped full t z = ap told (full_cut m bytes k n a (count-full m n a full) t z)
 
 module _ (m : List ℕ) (n : ℕ) (a : Accepts m n) where
   -- 17 exactly if none waits
-  pub read_none : waiting m ≡ [] → (read m).answer ≡ NotRead Empty
-  read_none e = ap (λ (o : Outcome (List ℕ) ReadAnswer). o.answer) (read-empty m n (accepts m n a) (none-empty m n a e))
+  pub read_none : waiting m ≡ [] → (read m).answer ≡ Err Empty
+  read_none e = ap (λ (o : Outcome (List ℕ) (Result Record ReadRefusal)). o.answer) (read-empty m n (accepts m n a) (none-empty m n a e))
 
-  pub none_read : (read m).answer ≡ NotRead Empty → waiting m ≡ []
+  pub none_read : (read m).answer ≡ Err Empty → waiting m ≡ []
   none_read q = by_test (is_empty (index_of m)) refl
     where
       by_test : (t : Bool) → is_empty (index_of m) ≡ t → waiting m ≡ []
       by_test true t = empty-none m n a t
       by_test false t =
-          let z : ◌≡◌ {A = ℕ} 0 1 = cc (ap (λ (o : Outcome (List ℕ) ReadAnswer). o.answer) (read-stores m n (accepts m n a) t)) in absurd (omega arith)
+          let z : ◌≡◌ {A = ℕ} 0 1 = cc (ap (λ (o : Outcome (List ℕ) (Result Record ReadRefusal)). o.answer) (read-stores m n (accepts m n a) t)) in absurd (omega arith)
 
   -- a read makes room: the next write is not dropped, and on a full ring it goes into the very slot that was read
-  pub read-frees : (r : Record) → (read m).answer ≡ Oldest r → (bytes : List ℕ) (k : ℕ) → 5 ≤ k
-      → (write (read m).memory bytes k).answer ≡ Done (record { end = Stored; stores = 5 })
+  pub read-frees : (r : Record) → (read m).answer ≡ Ok r → (bytes : List ℕ) (k : ℕ) → 5 ≤ k
+      → (write (read m).memory bytes k).answer ≡ Ok (record { end = Stored; stores = 5 })
   read-frees r q bytes k h =
       ends-stored (read m).memory bytes k n (read-accepted m n a) (omega (arith, waiting-fits m n a, ap length (read-oldest m r q))) h
 
-  pub used-again : (r : Record) → length (waiting m) ≡ slots n → (read m).answer ≡ Oldest r → free (index_of (read m).memory) ≡ oldest (index_of m)
+  pub used-again : (r : Record) → length (waiting m) ≡ slots n → (read m).answer ≡ Ok r → free (index_of (read m).memory) ≡ oldest (index_of m)
   used-again r full q = by_test (is_empty (index_of m)) refl
     where
       by_test : (t : Bool) → is_empty (index_of m) ≡ t → free (index_of (read m).memory) ≡ oldest (index_of m)
       by_test true t =
-          let z : ◌≡◌ {A = ℕ} 0 1 = cc (ap (λ (o : Outcome (List ℕ) ReadAnswer). o.answer) (read-empty m n (accepts m n a) t)) in absurd (omega arith)
+          let z : ◌≡◌ {A = ℕ} 0 1 = cc (ap (λ (o : Outcome (List ℕ) (Result Record ReadRefusal)). o.answer) (read-empty m n (accepts m n a) t)) in absurd (omega arith)
       by_test false t =
-          rw (ap (λ (o : Outcome (List ℕ) ReadAnswer). o.memory) (read-stores m n (accepts m n a) t), stored-word m n a (read_out (index_of m)))
+          rw (ap (λ (o : Outcome (List ℕ) (Result Record ReadRefusal)). o.memory) (read-stores m n (accepts m n a) t), stored-word m n a (read_out (index_of m)))
           (free-oldest m n a (count-full m n a full))
 
 -- over any calls, one after the other: the records that wait and the overflow are those that the answers tell

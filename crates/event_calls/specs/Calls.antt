@@ -1,6 +1,6 @@
 -- Document 02, T-01: writing a record, reading the oldest, acknowledging an overflow; refusals 17 and 18.
 -- Assumes nothing.
-use Rattle.std.specs.Prelude.{◌≡◌, not, List, [], ◌∷◌, ℕ, ◌+◌, ◌*◌, ltb, length, set}
+use Rattle.std.specs.Prelude.{◌≡◌, not, List, [], ◌∷◌, ℕ, ◌+◌, ◌*◌, ltb, length, set, Err, Ok, Result, ⊤}
 use Rattle.words.specs.Choice.{pick}
 use Rattle.words.specs.Outcomes.{Outcome, with}
 use Rattle.words.specs.Stores.{Store, store_in, after_stores}
@@ -11,16 +11,11 @@ use Rattle.events.specs.Events as events
 use Rattle.event_calls.specs.declared.WriteEnd.{WriteEnd}
 use Rattle.event_calls.specs.declared.WriteEnd.TheVariants.{Stored, Dropped, Cut}
 use Rattle.event_calls.specs.declared.Writing.{Writing}
-use Rattle.event_calls.specs.declared.WriteAnswer.{WriteAnswer}
-use Rattle.event_calls.specs.declared.WriteAnswer.TheVariants.{Refused as NotWritten, Done}
+use Rattle.events.specs.declared.Refusal.{Refusal}
 use Rattle.event_calls.specs.declared.ReadRefusal.{ReadRefusal}
 use Rattle.event_calls.specs.declared.ReadRefusal.TheVariants.{Recorder as OfRecorder, Empty}
-use Rattle.event_calls.specs.declared.ReadAnswer.{ReadAnswer}
-use Rattle.event_calls.specs.declared.ReadAnswer.TheVariants.{Refused as NotRead, Oldest}
 use Rattle.event_calls.specs.declared.AcknowledgeRefusal.{AcknowledgeRefusal}
 use Rattle.event_calls.specs.declared.AcknowledgeRefusal.TheVariants.{Recorder as ByRecorder, NoOverflow}
-use Rattle.event_calls.specs.declared.AcknowledgeAnswer.{AcknowledgeAnswer}
-use Rattle.event_calls.specs.declared.AcknowledgeAnswer.TheVariants.{Refused as NotAcknowledged, Acknowledged}
 
 -- the paper's numbers of the refusals; the ends in the order in which it names them
 abbrev pub read_number : ReadRefusal → ℕ
@@ -70,25 +65,25 @@ pub record Stores (ss : List Store) (end : WriteEnd) (k : ℕ) (m m' : List ℕ)
   pub reports : r ≡ report ss end k
   pub leaves : m' ≡ after_stores k ss m
 
-unfoldable pub write : List ℕ → List ℕ → ℕ → Outcome (List ℕ) WriteAnswer
+unfoldable pub write : List ℕ → List ℕ → ℕ → Outcome (List ℕ) (Result Writing Refusal)
 write m bytes k =
     let w = events.index_of m in
     let ss = due_stores w (events.record_of bytes) in
-    events.checked (events.check m) (λ why. with (NotWritten why) m)
-    (λ n. with (Done (report ss (end_of w) k)) (after_stores k ss m))
+    events.checked (events.check m) (λ why. with (Err why) m)
+    (λ n. with (Ok (report ss (end_of w) k)) (after_stores k ss m))
 
 -- 17, and then one store
-unfoldable pub read : List ℕ → Outcome (List ℕ) ReadAnswer
+unfoldable pub read : List ℕ → Outcome (List ℕ) (Result Record ReadRefusal)
 read m =
     let w = events.index_of m in
-    events.checked (events.check m) (λ why. with (NotRead (OfRecorder why)) m)
-    (λ n. pick (is_empty w) (with (NotRead Empty) m)
-    (with (Oldest (events.record_at m (oldest w))) (set m 0 (read_out w))))
+    events.checked (events.check m) (λ why. with (Err (OfRecorder why)) m)
+    (λ n. pick (is_empty w) (with (Err Empty) m)
+    (with (Ok (events.record_at m (oldest w))) (set m 0 (read_out w))))
 
 -- 18, and then one store
-unfoldable pub acknowledge : List ℕ → Outcome (List ℕ) AcknowledgeAnswer
+unfoldable pub acknowledge : List ℕ → Outcome (List ℕ) (Result ⊤ AcknowledgeRefusal)
 acknowledge m =
     let w = events.index_of m in
-    events.checked (events.check m) (λ why. with (NotAcknowledged (ByRecorder why)) m)
-    (λ n. pick (not (outstanding w)) (with (NotAcknowledged NoOverflow) m)
-    (with Acknowledged (set m 0 (acknowledged w))))
+    events.checked (events.check m) (λ why. with (Err (ByRecorder why)) m)
+    (λ n. pick (not (outstanding w)) (with (Err NoOverflow) m)
+    (with (Ok tt) (set m 0 (acknowledged w))))

@@ -1,17 +1,15 @@
 -- Document 02, T-01: what the answers alone tell of the queue and of the overflow, over calls made one after the other; and a write
 -- that is cut and made again.
 -- Assumes nothing.
-use Rattle.std.specs.Prelude.{◌≡◌, Bool, true, false, List, [], ◌∷◌, ◌++◌, ℕ, drop}
+use Rattle.std.specs.Prelude.{◌≡◌, Bool, true, false, List, [], ◌∷◌, ◌++◌, ℕ, drop, Err, Ok, Result, ⊤}
 use Rattle.events.specs.declared.Record.{Record}
 use Rattle.events.specs.Events.{record_of}
 use Rattle.event_calls.specs.declared.WriteEnd.{WriteEnd}
 use Rattle.event_calls.specs.declared.WriteEnd.TheVariants.{Stored, Dropped, Cut}
-use Rattle.event_calls.specs.declared.WriteAnswer.{WriteAnswer}
-use Rattle.event_calls.specs.declared.WriteAnswer.TheVariants.{Refused as NotWritten, Done}
-use Rattle.event_calls.specs.declared.ReadAnswer.{ReadAnswer}
-use Rattle.event_calls.specs.declared.ReadAnswer.TheVariants.{Refused as NotRead, Oldest}
-use Rattle.event_calls.specs.declared.AcknowledgeAnswer.{AcknowledgeAnswer}
-use Rattle.event_calls.specs.declared.AcknowledgeAnswer.TheVariants.{Refused as NotAcknowledged, Acknowledged}
+use Rattle.event_calls.specs.declared.Writing.{Writing}
+use Rattle.events.specs.declared.Refusal.{Refusal}
+use Rattle.event_calls.specs.declared.ReadRefusal.{ReadRefusal}
+use Rattle.event_calls.specs.declared.AcknowledgeRefusal.{AcknowledgeRefusal}
 use Rattle.event_calls.specs.Calls.{write, read, acknowledge}
 
 -- the records that wait after an answer: a stored one is the last of them, a read one was the first
@@ -20,13 +18,13 @@ by_end r Stored q = q ++ (r ∷ [])
 by_end r Dropped q = q
 by_end r Cut q = q
 
-abbrev pub queue_by_write : Record → WriteAnswer → List Record → List Record
-queue_by_write r (NotWritten why) q = q
-queue_by_write r (Done writing) q = by_end r writing.end q
+abbrev pub queue_by_write : Record → Result Writing Refusal → List Record → List Record
+queue_by_write r (Err why) q = q
+queue_by_write r (Ok writing) q = by_end r writing.end q
 
-abbrev pub queue_by_read : ReadAnswer → List Record → List Record
-queue_by_read (NotRead why) q = q
-queue_by_read (Oldest r) q = drop 1 q
+abbrev pub queue_by_read : Result Record ReadRefusal → List Record → List Record
+queue_by_read (Err why) q = q
+queue_by_read (Ok r) q = drop 1 q
 
 -- whether an overflow is outstanding after it: from a drop on, until it is acknowledged
 abbrev pub overflow_by_end : WriteEnd → Bool → Bool
@@ -34,13 +32,13 @@ overflow_by_end Stored was = was
 overflow_by_end Dropped was = true
 overflow_by_end Cut was = was
 
-abbrev pub overflow_by_write : WriteAnswer → Bool → Bool
-overflow_by_write (NotWritten why) was = was
-overflow_by_write (Done writing) was = overflow_by_end writing.end was
+abbrev pub overflow_by_write : Result Writing Refusal → Bool → Bool
+overflow_by_write (Err why) was = was
+overflow_by_write (Ok writing) was = overflow_by_end writing.end was
 
-abbrev pub overflow_by_acknowledge : AcknowledgeAnswer → Bool → Bool
-overflow_by_acknowledge (NotAcknowledged why) was = was
-overflow_by_acknowledge Acknowledged was = false
+abbrev pub overflow_by_acknowledge : Result ⊤ AcknowledgeRefusal → Bool → Bool
+overflow_by_acknowledge (Err why) was = was
+overflow_by_acknowledge (Ok tt) was = false
 
 -- the calls: a write with its bytes and allowance, a read, an acknowledge
 pub data Call : Type 0 where
@@ -78,9 +76,9 @@ overflow_all [] m was = was
 overflow_all (c ∷ cs) m was = overflow_all cs (leaves c m) (overflow_by c m was)
 
 -- it was carried out, and ended so
-abbrev pub Ends : WriteEnd → WriteAnswer → Type 0
-Ends end (NotWritten why) = ⊥
-Ends end (Done writing) = writing.end ≡ end
+abbrev pub Ends : WriteEnd → Result Writing Refusal → Type 0
+Ends end (Err why) = ⊥
+Ends end (Ok writing) = writing.end ≡ end
 
 -- the memory after writes of one record with these allowances; and that each of them ended Cut
 unfoldable pub rewritten : List ℕ → List ℕ → List ℕ → List ℕ

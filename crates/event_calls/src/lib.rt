@@ -7,7 +7,7 @@ ghost use Rattle.words.specs.Outcomes.{Gives};
 ghost use Rattle.events.specs.Events.{index_of};
 ghost use Rattle.event_calls.specs.Calls.{write_stores, store_at, drop_stores, Stores, write, read, acknowledge};
 
-use events::{Checked, Record};
+use events::Record;
 
 // How a write ends.
 #[derive(Clone, Copy)]
@@ -24,13 +24,6 @@ pub struct Writing {
     pub stores: u64,
 }
 
-// A write is refused for the recorder only.
-#[derive(Clone, Copy)]
-pub enum WriteAnswer {
-    Refused(events::Refusal),
-    Done(Writing),
-}
-
 // Why a read is refused: the recorder, or no record that waits.
 #[derive(Clone, Copy)]
 pub enum ReadRefusal {
@@ -38,10 +31,12 @@ pub enum ReadRefusal {
     Empty,
 }
 
-#[derive(Clone, Copy)]
-pub enum ReadAnswer {
-    Refused(ReadRefusal),
-    Oldest(Record),
+impl From<events::Refusal> for ReadRefusal {
+    ghost from_gives = { λ why e. e ≡ ReadRefusal.Recorder why };
+
+    fn from(why: events::Refusal) -> ReadRefusal {
+        ReadRefusal::Recorder(why)
+    }
 }
 
 // Why an acknowledge is refused: the recorder, or no overflow that is outstanding.
@@ -51,10 +46,12 @@ pub enum AcknowledgeRefusal {
     NoOverflow,
 }
 
-#[derive(Clone, Copy)]
-pub enum AcknowledgeAnswer {
-    Refused(AcknowledgeRefusal),
-    Acknowledged,
+impl From<events::Refusal> for AcknowledgeRefusal {
+    ghost from_gives = { λ why e. e ≡ AcknowledgeRefusal.Recorder why };
+
+    fn from(why: events::Refusal) -> AcknowledgeRefusal {
+        AcknowledgeRefusal::Recorder(why)
+    }
 }
 
 // The word of a record that the store at a place takes.
@@ -132,59 +129,47 @@ fn drop_one(kept: &mut [u64], allowance: u64) -> Writing
     }
 }
 
-// Writes a record of 32 bytes behind those that wait, or drops it if the ring is full.
-pub fn write(kept: &mut [u64], bytes: &[u8; 32], allowance: u64) -> WriteAnswer
+// Writes a record of 32 bytes behind those that wait, or drops it if the ring is full; refused for the recorder only.
+pub fn write(kept: &mut [u64], bytes: &[u8; 32], allowance: u64) -> Result<Writing, events::Refusal>
     ensures { Gives (write kept.old bytes.now allowance) kept.new result }
 {
-    match events::check(&*kept) {
-        Checked::Refused(why) => WriteAnswer::Refused(why),
-        Checked::Accepted(_) => {
-            let w = kept[0];
-            if events::is_full(w) {
-                let dropped = drop_one(&mut *kept, allowance);
-                return WriteAnswer::Done(dropped);
-            }
-            let slot = events::free(w) as usize;
-            let event = events::record_of(bytes);
-            let index = events::written(w);
-            let written = steps(&mut *kept, slot, event, index, allowance);
-            WriteAnswer::Done(written)
-        }
+    events::check(&*kept)?;
+    let w = kept[0];
+    if events::is_full(w) {
+        let dropped = drop_one(&mut *kept, allowance);
+        return Ok(dropped);
     }
+    let slot = events::free(w) as usize;
+    let event = events::record_of(bytes);
+    let index = events::written(w);
+    let written = steps(&mut *kept, slot, event, index, allowance);
+    Ok(written)
 }
 
 // The oldest record, whose slot is free again.
-pub fn read(kept: &mut [u64]) -> ReadAnswer
+pub fn read(kept: &mut [u64]) -> Result<Record, ReadRefusal>
     ensures { Gives (read kept.old) kept.new result }
 {
-    match events::check(&*kept) {
-        Checked::Refused(why) => ReadAnswer::Refused(ReadRefusal::Recorder(why)),
-        Checked::Accepted(_) => {
-            let w = kept[0];
-            if events::is_empty(w) {
-                return ReadAnswer::Refused(ReadRefusal::Empty);
-            }
-            let slot = events::oldest(w) as usize;
-            let event = events::record_at(&*kept, slot);
-            kept[0] = events::read_out(w);
-            ReadAnswer::Oldest(event)
-        }
+    events::check(&*kept)?;
+    let w = kept[0];
+    if events::is_empty(w) {
+        return Err(ReadRefusal::Empty);
     }
+    let slot = events::oldest(w) as usize;
+    let event = events::record_at(&*kept, slot);
+    kept[0] = events::read_out(w);
+    Ok(event)
 }
 
 // The acknowledgement becomes equal to the overflow flag.
-pub fn acknowledge(kept: &mut [u64]) -> AcknowledgeAnswer
+pub fn acknowledge(kept: &mut [u64]) -> Result<(), AcknowledgeRefusal>
     ensures { Gives (acknowledge kept.old) kept.new result }
 {
-    match events::check(&*kept) {
-        Checked::Refused(why) => AcknowledgeAnswer::Refused(AcknowledgeRefusal::Recorder(why)),
-        Checked::Accepted(_) => {
-            let w = kept[0];
-            if !events::outstanding(w) {
-                return AcknowledgeAnswer::Refused(AcknowledgeRefusal::NoOverflow);
-            }
-            kept[0] = events::acknowledged(w);
-            AcknowledgeAnswer::Acknowledged
-        }
+    events::check(&*kept)?;
+    let w = kept[0];
+    if !events::outstanding(w) {
+        return Err(AcknowledgeRefusal::NoOverflow);
     }
+    kept[0] = events::acknowledged(w);
+    Ok(())
 }

@@ -1,17 +1,13 @@
 -- Document 02, T-01: the recorder's words, the records that wait in them, and refusals 15 and 16.
 -- Assumes nothing.
-use Rattle.std.specs.Prelude.{ℕ, zero, suc, ◌+◌, ◌*◌, Bool, not, List, [], ◌∷◌, eqb, length, get_or}
+use Rattle.std.specs.Prelude.{ℕ, zero, suc, ◌+◌, ◌*◌, Bool, not, List, [], ◌∷◌, eqb, length, get_or, Err, None, Ok, Option, Result, Some}
 use Rattle.words.specs.Bytes.{word_at}
 use Rattle.words.specs.Choice.{pick}
 use Rattle.words.specs.Search.{lowest}
-use Rattle.words.specs.declared.Found.{Found}
-use Rattle.words.specs.declared.Found.TheVariants.{At, Nothing}
 use Rattle.indexes.specs.Indexes as indexes
 use Rattle.events.specs.declared.Record.{Record}
 use Rattle.events.specs.declared.Refusal.{Refusal}
 use Rattle.events.specs.declared.Refusal.TheVariants.{BadLength, BadIndex}
-use Rattle.events.specs.declared.Checked.{Checked}
-use Rattle.events.specs.declared.Checked.TheVariants.{Accepted, Refused}
 use Rattle.events.specs.Word as word
 
 -- the largest n
@@ -56,21 +52,21 @@ waiting m =
 unfoldable pub is_long : List ℕ → ℕ → Bool
 is_long m n = eqb (length m) (1 + 4 * indexes.slots n)
 
-unfoldable pub log2_of : List ℕ → Found
+unfoldable pub log2_of : List ℕ → Option ℕ
 log2_of m = lowest (is_long m) (max_log2 + 1) 0
 
-abbrev pub by_index : List ℕ → Found → Checked
-by_index m Nothing = Refused BadLength
-by_index m (At n) = pick (not (word.well_formed n (index_of m))) (Refused BadIndex) (Accepted n)
+abbrev pub by_index : List ℕ → Option ℕ → Result ℕ Refusal
+by_index m None = Err BadLength
+by_index m (Some n) = pick (not (word.well_formed n (index_of m))) (Err BadIndex) (Ok n)
 
 -- n, or the first refusal that applies
-unfoldable pub check : List ℕ → Checked
+unfoldable pub check : List ℕ → Result ℕ Refusal
 check m = by_index m (log2_of m)
 
 -- 15 and 16 come first in every call: a refused recorder is answered so, an accepted one of 2 ^ n slots goes on
-abbrev pub checked : {A : Type 0} → Checked → (Refusal → A) → (ℕ → A) → A
-checked (Refused why) refused next = refused why
-checked (Accepted n) refused next = next n
+abbrev pub checked : {A : Type 0} → Result ℕ Refusal → (Refusal → A) → (ℕ → A) → A
+checked (Err why) refused next = refused why
+checked (Ok n) refused next = next n
 
 -- the paper's number of each refusal
 abbrev pub number : Refusal → ℕ

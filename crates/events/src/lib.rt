@@ -1,7 +1,6 @@
 // The recorder's kept memory: an index word, then 2^n slots of four words.
 #![tactic(auto)]
 
-use words::Found;
 
 mod places;
 mod stores;
@@ -30,13 +29,6 @@ pub struct Record {
 pub enum Refusal {
     BadLength,
     BadIndex,
-}
-
-// What a check answers: n, or a refusal.
-#[derive(Clone, Copy)]
-pub enum Checked {
-    Accepted(usize),
-    Refused(Refusal),
 }
 
 // The record of 32 bytes.
@@ -74,30 +66,30 @@ fn is_long(kept: &[u64], n: usize) -> bool
     kept.len() as u64 == size
 }
 
-fn log2_of(kept: &[u64]) -> Found
+fn log2_of(kept: &[u64]) -> Option<usize>
     ensures { result ≡ log2_of kept.now }
 {
     let mut n = 0;
     while n < MAX_LOG2 + 1 {
         if is_long(kept, n) {
-            return Found::At(n);
+            return Some(n);
         }
         n += 1;
     }
-    Found::Nothing
+    None
 }
 
 // n as the length says it, or refusal 15 or 16.
-pub fn check(kept: &[u64]) -> Checked
+pub fn check(kept: &[u64]) -> Result<usize, Refusal>
     ensures { result ≡ check kept.now }
 {
     match log2_of(kept) {
-        Found::Nothing => Checked::Refused(Refusal::BadLength),
-        Found::At(n) => {
+        None => Err(Refusal::BadLength),
+        Some(n) => {
             if !word::well_formed(n as u64, kept[0]) {
-                return Checked::Refused(Refusal::BadIndex);
+                return Err(Refusal::BadIndex);
             }
-            Checked::Accepted(n)
+            Ok(n)
         }
     }
 }

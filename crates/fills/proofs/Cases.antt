@@ -11,19 +11,18 @@ use Rattle.words.specs.Stores.{after_stores}
 use Rattle.words.specs.Outcomes.{Outcome, with, Gives}
 use Rattle.rows.specs.declared.Row.{Row}
 use Rattle.image.specs.declared.Refusal.{Refusal}
-use Rattle.image.specs.declared.Checked.TheVariants.{Accepted, Refused}
+use Rattle.std.specs.Prelude.{Err, Ok, Result}
+use Rattle.fills.specs.declared.FillRefusal.{FillRefusal}
 use Rattle.image.specs.Image.{row_at, is_used, check}
 use Rattle.image.proofs.Checks.{says}
 use Rattle.doubles.specs.Doubles.{doubled}
 use Rattle.fills.specs.declared.FillRefusal.TheVariants.{Image, NoSuchRow, RowInUse, Unfit, Doubled}
 use Rattle.fills.specs.declared.Filling.{Filling}
-use Rattle.fills.specs.declared.FillAnswer.{FillAnswer}
-use Rattle.fills.specs.declared.FillAnswer.TheVariants.{Done}
 use Rattle.fills.specs.Fills.{fill_stores, fit, report, refused, fill, Stores}
 
 -- carried out under an allowance of k
-abbrev pub done : List ℕ → ℕ → Row → ℕ → Outcome (List ℕ) FillAnswer
-done m row words k = with (Done (report k)) (after_stores k (fill_stores row words) m)
+abbrev pub done : List ℕ → ℕ → Row → ℕ → Outcome (List ℕ) (Result Filling FillRefusal)
+done m row words k = with (Ok (report k)) (after_stores k (fill_stores row words) m)
 
 -- the row is used by its word 0
 module _ (m : List ℕ) (row : ℕ) where
@@ -36,19 +35,19 @@ module _ (m : List ℕ) (row : ℕ) where
   unused e = ap not (eq-eqb (get_or m (4 * row + 1) 0) 0 e)
 
   -- a row of an accepted image lies within it
-  pub inside : (n : ℕ) → check m ≡ Accepted n → row < n → 4 * row + 5 ≤ length m
+  pub inside : (n : ℕ) → check m ≡ Ok n → row < n → 4 * row + 5 ≤ length m
   inside n e h = omega (arith, ((says m).accepted n e).size.words)
 
 -- and so do all of them
-pub whole : (m : List ℕ) (n : ℕ) → check m ≡ Accepted n → 4 * n + 1 ≤ length m
+pub whole : (m : List ℕ) (n : ℕ) → check m ≡ Ok n → 4 * n + 1 ≤ length m
 whole m n e = omega (arith, ((says m).accepted n e).size.words)
 
 module _ (m : List ℕ) (row : ℕ) (words : Row) (k : ℕ) where
-  pub fill-image : (why : Refusal) → check m ≡ Refused why → fill m row words k ≡ refused (Image why) m
+  pub fill-image : (why : Refusal) → check m ≡ Err why → fill m row words k ≡ refused (Image why) m
   unfolding fill
   fill-image why e = rw e
 
-  module _ (n : ℕ) (e : check m ≡ Accepted n) where
+  module _ (n : ℕ) (e : check m ≡ Ok n) where
     pub fill-no-row : n ≤ row → fill m row words k ≡ refused NoSuchRow m
     unfolding fill
     fill-no-row h = rw (e, le-leb n row h)
@@ -72,5 +71,5 @@ module _ (m : List ℕ) (row : ℕ) (words : Row) (k : ℕ) where
 
 -- what the stores ensured is the contract met
 pub meets-done : {m m' : List ℕ} {row : ℕ} {words : Row} {k : ℕ} {r : Filling} → Stores m row words k m' r
-    → fill m row words k ≡ done m row words k → Gives (fill m row words k) m' (Done r)
-meets-done s e = record { answers = rw e (ap Done s.reports); leaves = rw e s.leaves }
+    → fill m row words k ≡ done m row words k → Gives (fill m row words k) m' (Ok r)
+meets-done s e = record { answers = rw e (ap Ok s.reports); leaves = rw e s.leaves }

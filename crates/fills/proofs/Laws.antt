@@ -21,8 +21,9 @@ use Rattle.rows.specs.Rows.{is_empty}
 use Rattle.rows.proofs.LastLevel.{empty-not-last}
 use Rattle.row_forms.specs.WellFormed as rows
 use Rattle.row_forms.proofs.Halves.{still_formed}
-use Rattle.image.specs.declared.Checked.{Checked}
-use Rattle.image.specs.declared.Checked.TheVariants.{Accepted, Refused}
+use Rattle.std.specs.Prelude.{Err, Ok, Result}
+use Rattle.image.specs.declared.Refusal.{Refusal}
+use Rattle.fills.specs.declared.Filling.{Filling}
 use Rattle.image.specs.Image.{control_of, row_at, is_used, check}
 use Rattle.image.proofs.Checks.{Accepts, accepts, says}
 use Rattle.image.proofs.AfterStores.{InRow, row_kept, control_kept, empty-formed}
@@ -31,8 +32,6 @@ use Rattle.doubles.proofs.Laws.{second_not-last, alone, is-alone}
 use Rattle.fills.specs.declared.FillEnd.TheVariants.{Filled, Cut}
 use Rattle.fills.specs.declared.FillRefusal.{FillRefusal}
 use Rattle.fills.specs.declared.FillRefusal.TheVariants.{Image, NoSuchRow, RowInUse, Unfit, Doubled}
-use Rattle.fills.specs.declared.FillAnswer.{FillAnswer}
-use Rattle.fills.specs.declared.FillAnswer.TheVariants.{Refused as NotFilled, Done}
 use Rattle.fills.specs.Fills.{fill_stores, fit, report, refused, fill}
 use Rattle.fills.proofs.Order.{report-cut, report-filled}
 use Rattle.fills.proofs.Cases.{done, fill-image, fill-no-row, fill-in-use, fill-unfit, fill-doubled, fill_done}
@@ -107,17 +106,17 @@ module _ (m : List ℕ) (n row : ℕ) (words : Row) (c : Carried m n row words) 
   leaves k = (fill m row words k).memory
 
   pub left_by : (k : ℕ) → leaves k ≡ after_stores k (fill_stores row words) m
-  left_by k = ap (λ (o : Outcome (List ℕ) FillAnswer). o.memory) (carried k)
+  left_by k = ap (λ (o : Outcome (List ℕ) (Result Filling FillRefusal)). o.memory) (carried k)
 
   room : 4 * row + 5 ≤ length m
   room = omega (arith, c.image.size.words, c.below)
 
   -- enough: with four stores or more it ends Filled, with less it ends Cut, each with the stores it made
-  pub enough : (k : ℕ) → 4 ≤ k → (fill m row words k).answer ≡ Done (record { end = Filled; stores = 4 })
-  enough k h = ap (λ (o : Outcome (List ℕ) FillAnswer). o.answer) (carried k) ∙ ap Done (report-filled k h)
+  pub enough : (k : ℕ) → 4 ≤ k → (fill m row words k).answer ≡ Ok (record { end = Filled; stores = 4 })
+  enough k h = ap (λ (o : Outcome (List ℕ) (Result Filling FillRefusal)). o.answer) (carried k) ∙ ap Ok (report-filled k h)
 
-  pub not_enough : (k : ℕ) → k < 4 → (fill m row words k).answer ≡ Done (record { end = Cut; stores = k })
-  not_enough k h = ap (λ (o : Outcome (List ℕ) FillAnswer). o.answer) (carried k) ∙ ap Done (report-cut k h)
+  pub not_enough : (k : ℕ) → k < 4 → (fill m row words k).answer ≡ Ok (record { end = Cut; stores = k })
+  not_enough k h = ap (λ (o : Outcome (List ℕ) (Result Filling FillRefusal)). o.answer) (carried k) ∙ ap Ok (report-cut k h)
 
   -- at every allowance the other rows and the control word stay
   pub other_rows_kept : (k j : ℕ) → (j ≡ row → ⊥) → row_at (leaves k) j ≡ row_at m j
@@ -186,7 +185,7 @@ pub fill-again : (m : List ℕ) (n row : ℕ) (words : Row) → Carried m n row 
     → fill (fill m row words k).memory row words k' ≡ fill m row words k'
 fill-again m n row words c k k' h h' =
     carried (fill m row words k).memory n row words (still_carried m n row words c k h) k'
-    ∙ ap (λ (l : List ℕ). record { answer = Done (report k'); memory = l }) same
+    ∙ ap (λ (l : List ℕ). record { answer = Ok (report k'); memory = l }) same
     ∙ sym (carried m n row words c k')
   where
     same : after_stores k' (fill_stores row words) (fill m row words k).memory ≡ after_stores k' (fill_stores row words) m
@@ -205,7 +204,7 @@ module _ (m : List ℕ) (row : ℕ) (words : Row) where
   unfolding is_used fit
   which-way = by_check (check m) refl
     where
-      by_double : (n : ℕ) → check m ≡ Accepted n → row < n → is_used m row ≡ false → fit words ≡ true → (t : Bool) → doubled m n words ≡ t → Goes m row words
+      by_double : (n : ℕ) → check m ≡ Ok n → row < n → is_used m row ≡ false → fit words ≡ true → (t : Bool) → doubled m n words ≡ t → Goes m row words
       by_double n e h u f true t = stops Doubled (λ k. fill-doubled m row words k n e h u f t)
       by_double n e h u f false t =
           let formed : rows.well_formed words ≡ true = left (rows.well_formed words) (not (is_empty words)) f in
@@ -213,27 +212,27 @@ module _ (m : List ℕ) (row : ℕ) (words : Row) where
           let empty : is_empty (row_at m row) ≡ true = not-false (is_empty (row_at m row)) u in
           stores n (record { image = (says m).accepted n e; below = h; empty = empty; formed = formed; some = some; alone = t })
 
-      by_fit : (n : ℕ) → check m ≡ Accepted n → row < n → is_used m row ≡ false → (t : Bool) → fit words ≡ t → Goes m row words
+      by_fit : (n : ℕ) → check m ≡ Ok n → row < n → is_used m row ≡ false → (t : Bool) → fit words ≡ t → Goes m row words
       by_fit n e h u false t = stops Unfit (λ k. fill-unfit m row words k n e h u t)
       by_fit n e h u true t = by_double n e h u t (doubled m n words) refl
 
-      by_use : (n : ℕ) → check m ≡ Accepted n → row < n → (t : Bool) → is_used m row ≡ t → Goes m row words
+      by_use : (n : ℕ) → check m ≡ Ok n → row < n → (t : Bool) → is_used m row ≡ t → Goes m row words
       by_use n e h true u = stops RowInUse (λ k. fill-in-use m row words k n e h u)
       by_use n e h false u = by_fit n e h u (fit words) refl
 
-      by_check : (t : Checked) → check m ≡ t → Goes m row words
-      by_check (Refused why) e = stops (Image why) (λ k. fill-image m row words k why e)
-      by_check (Accepted n) e =
+      by_check : (t : Result ℕ Refusal) → check m ≡ t → Goes m row words
+      by_check (Err why) e = stops (Image why) (λ k. fill-image m row words k why e)
+      by_check (Ok n) e =
           ⊎_elim (λ h. by_use n e h (is_used m row) refl) (λ h. stops NoSuchRow (λ k. fill-no-row m row words k n e h)) (less_or_not row n)
 
   -- a refusal stores nothing
-  pub refused-leaves : (k : ℕ) (why : FillRefusal) → (fill m row words k).answer ≡ NotFilled why → (fill m row words k).memory ≡ m
+  pub refused-leaves : (k : ℕ) (why : FillRefusal) → (fill m row words k).answer ≡ Err why → (fill m row words k).memory ≡ m
   refused-leaves k why e = by_way which-way
     where
       by_way : Goes m row words → (fill m row words k).memory ≡ m
-      by_way (stops why' g) = ap (λ (o : Outcome (List ℕ) FillAnswer). o.memory) (g k)
+      by_way (stops why' g) = ap (λ (o : Outcome (List ℕ) (Result Filling FillRefusal)). o.memory) (g k)
       by_way (stores n c) =
-          let z : ◌≡◌ {A = ℕ} 0 1 = cc (ap (λ (o : Outcome (List ℕ) FillAnswer). o.answer) (carried m n row words c k)) in
+          let z : ◌≡◌ {A = ℕ} 0 1 = cc (ap (λ (o : Outcome (List ℕ) (Result Filling FillRefusal)). o.answer) (carried m n row words c k)) in
           absurd (omega arith)
 
   -- an accepted image stays accepted, whatever is answered and wherever the power goes
@@ -241,7 +240,7 @@ module _ (m : List ℕ) (row : ℕ) (words : Row) where
   accepted_at_every_allowance k n a = by_way which-way
     where
       by_way : Goes m row words → Accepts (fill m row words k).memory n
-      by_way (stops why g) = rw (ap (λ (o : Outcome (List ℕ) FillAnswer). o.memory) (g k)) a
+      by_way (stops why g) = rw (ap (λ (o : Outcome (List ℕ) (Result Filling FillRefusal)). o.memory) (g k)) a
       by_way (stores n' c) =
           let same : n' ≡ n = cc (accepts m n a, accepts m n' c.image) in
           rw (← same) (stays-accepted m n' row words c k)

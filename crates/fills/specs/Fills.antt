@@ -1,6 +1,6 @@
 -- Document 01, One run: filling a row. When the unit says no: refusals 7, 8 and 9, and 11 of document 02, T-02.
 -- Assumes nothing.
-use Rattle.std.specs.Prelude.{◌≡◌, Bool, not, ◌&&◌, List, [], ◌∷◌, ℕ, ◌+◌, ◌*◌, leb, ltb}
+use Rattle.std.specs.Prelude.{◌≡◌, Bool, not, ◌&&◌, List, [], ◌∷◌, ℕ, ◌+◌, ◌*◌, leb, ltb, Err, Ok, Result}
 use Rattle.words.specs.Choice.{pick}
 use Rattle.words.specs.Outcomes.{Outcome, with}
 use Rattle.words.specs.Stores.{Store, store_in, after_stores}
@@ -14,8 +14,6 @@ use Rattle.fills.specs.declared.FillEnd.TheVariants.{Filled, Cut}
 use Rattle.fills.specs.declared.Filling.{Filling}
 use Rattle.fills.specs.declared.FillRefusal.{FillRefusal}
 use Rattle.fills.specs.declared.FillRefusal.TheVariants.{Image, NoSuchRow, RowInUse, Unfit, Doubled}
-use Rattle.fills.specs.declared.FillAnswer.{FillAnswer}
-use Rattle.fills.specs.declared.FillAnswer.TheVariants.{Refused as NotFilled, Done}
 
 -- the paper's number of each refusal, and of each end
 abbrev pub number : FillRefusal → ℕ
@@ -50,18 +48,18 @@ fit words = rows.well_formed words && not (is_empty words)
 unfoldable pub report : ℕ → Filling
 report k = pick (ltb k 4) (record { end = Cut; stores = k }) (record { end = Filled; stores = 4 })
 
-abbrev pub refused : FillRefusal → List ℕ → Outcome (List ℕ) FillAnswer
-refused why m = with (NotFilled why) m
+abbrev pub refused : FillRefusal → List ℕ → Outcome (List ℕ) (Result Filling FillRefusal)
+refused why m = with (Err why) m
 
 -- 7, 8, 9 and 11 in their order, and then the stores
-unfoldable pub fill : List ℕ → ℕ → Row → ℕ → Outcome (List ℕ) FillAnswer
+unfoldable pub fill : List ℕ → ℕ → Row → ℕ → Outcome (List ℕ) (Result Filling FillRefusal)
 fill m row words k =
     image.checked (image.check m) (λ why. refused (Image why) m)
     (λ n. pick (leb n row) (refused NoSuchRow m)
     (pick (image.is_used m row) (refused RowInUse m)
     (pick (not (fit words)) (refused Unfit m)
     (pick (doubled m n words) (refused Doubled m)
-    (with (Done (report k)) (after_stores k (fill_stores row words) m))))))
+    (with (Ok (report k)) (after_stores k (fill_stores row words) m))))))
 
 -- what the stores ensure, of the memory m before and m' after and of what is reported
 pub record Stores (m : List ℕ) (row : ℕ) (words : Row) (k : ℕ) (m' : List ℕ) (r : Filling) : Type 0 where

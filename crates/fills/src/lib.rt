@@ -5,7 +5,6 @@ ghost use Rattle.std.specs.Prelude.{◌≡◌, ◌+◌, ◌*◌, ◌≤◌, ◌<
 ghost use Rattle.words.specs.Outcomes.{Gives};
 ghost use Rattle.fills.specs.Fills.{store_at, fit, fill, Stores};
 
-use image::Checked;
 use rows::Row;
 
 // How a fill ends.
@@ -32,10 +31,12 @@ pub enum FillRefusal {
     Doubled,
 }
 
-#[derive(Clone, Copy)]
-pub enum FillAnswer {
-    Refused(FillRefusal),
-    Done(Filling),
+impl From<image::Refusal> for FillRefusal {
+    ghost from_gives = { λ why e. e ≡ FillRefusal.Image why };
+
+    fn from(why: image::Refusal) -> FillRefusal {
+        FillRefusal::Image(why)
+    }
 }
 
 // Whether a row may hold these words: well formed, and not empty.
@@ -92,26 +93,22 @@ fn steps(kept: &mut [u64], row: usize, words: Row, allowance: u64) -> Filling
 }
 
 // Fills an empty row of an accepted image with fit words that no row doubles.
-pub fn fill(kept: &mut [u64], row: usize, words: Row, allowance: u64) -> FillAnswer
+pub fn fill(kept: &mut [u64], row: usize, words: Row, allowance: u64) -> Result<Filling, FillRefusal>
     ensures { Gives (fill kept.old row words allowance) kept.new result }
 {
-    match image::check(&*kept) {
-        Checked::Refused(why) => FillAnswer::Refused(FillRefusal::Image(why)),
-        Checked::Accepted(n) => {
-            if n <= row {
-                return FillAnswer::Refused(FillRefusal::NoSuchRow);
-            }
-            if kept[4 * row + 1] != 0 {
-                return FillAnswer::Refused(FillRefusal::RowInUse);
-            }
-            if !is_fit(words) {
-                return FillAnswer::Refused(FillRefusal::Unfit);
-            }
-            if doubles::doubled(&*kept, n, words) {
-                return FillAnswer::Refused(FillRefusal::Doubled);
-            }
-            let done = steps(&mut *kept, row, words, allowance);
-            FillAnswer::Done(done)
-        }
+    let n = image::check(&*kept)?;
+    if n <= row {
+        return Err(FillRefusal::NoSuchRow);
     }
+    if kept[4 * row + 1] != 0 {
+        return Err(FillRefusal::RowInUse);
+    }
+    if !is_fit(words) {
+        return Err(FillRefusal::Unfit);
+    }
+    if doubles::doubled(&*kept, n, words) {
+        return Err(FillRefusal::Doubled);
+    }
+    let done = steps(&mut *kept, row, words, allowance);
+    Ok(done)
 }

@@ -10,7 +10,7 @@ use Rattle.words.specs.Ranges.{get}
 use Rattle.control.specs.Control as control
 use Rattle.control.proofs.Formed as control_formed
 use Rattle.row_forms.proofs.Halves as row-forms
-use Rattle.image.specs.declared.Checked.TheVariants.{Accepted}
+use Rattle.std.specs.Prelude.{Ok}
 use Rattle.image.specs.Image.{control_of, row_at, check}
 use Rattle.image.specs.Rules.{Rules, document01, present, FormedBy, AcceptedBy}
 use Rattle.image.proofs.Checks.{accepts, says}
@@ -74,7 +74,7 @@ module _ (w : ℕ) where
       }
 
 module _ (m : List ℕ) (n : ℕ) where
-  pub accepted_now : AcceptedBy present m n → check m ≡ Accepted n
+  pub accepted_now : AcceptedBy present m n → check m ≡ Ok n
   accepted_now a =
       accepts m n
       (record {
@@ -83,7 +83,7 @@ module _ (m : List ℕ) (n : ℕ) where
         rows-formed = a.rows-formed;
       })
 
-  pub now_accepted : check m ≡ Accepted n → AcceptedBy present m n
+  pub now_accepted : check m ≡ Ok n → AcceptedBy present m n
   now_accepted e =
       let a = (says m).accepted n e in
       record {
@@ -105,6 +105,6 @@ unfolding part
 zeros-wider w e = omega (arith, e)
 
 -- with as many rows; how a row or a control field is read names no rule
-pub still_accepted : (m : List ℕ) (n : ℕ) → AcceptedBy document01 m n → check m ≡ Accepted n
+pub still_accepted : (m : List ℕ) (n : ℕ) → AcceptedBy document01 m n → check m ≡ Ok n
 still_accepted m n a =
     accepted_now m n (widened document01 present (record { log2 = log2-wider; rows = rows-wider; zeros = zeros-wider; of_rows = row-forms.rows-wider }) m n a)

@@ -1,18 +1,14 @@
 -- Document 01, The kept memory, and When the unit says no: one control word, then the rows; refusals 1, 2 and 3.
 -- Assumes nothing.
-use Rattle.std.specs.Prelude.{ℕ, ◌+◌, ◌*◌, ◌/◌, Bool, not, ◌&&◌, List, eqb, leb, length, get_or}
+use Rattle.std.specs.Prelude.{ℕ, ◌+◌, ◌*◌, ◌/◌, Bool, not, ◌&&◌, List, eqb, leb, length, get_or, Err, None, Ok, Option, Result, Some}
 use Rattle.words.specs.Choice.{pick}
 use Rattle.words.specs.Search.{lowest, count}
-use Rattle.words.specs.declared.Found.{Found}
-use Rattle.words.specs.declared.Found.TheVariants.{At, Nothing}
 use Rattle.control.specs.Control as control
 use Rattle.rows.specs.declared.Row.{Row}
 use Rattle.rows.specs.Rows.{is_empty}
 use Rattle.row_forms.specs.WellFormed as rows
 use Rattle.image.specs.declared.Refusal.{Refusal}
 use Rattle.image.specs.declared.Refusal.TheVariants.{BadLength, BadControl, BadRow}
-use Rattle.image.specs.declared.Checked.{Checked}
-use Rattle.image.specs.declared.Checked.TheVariants.{Accepted, Refused}
 
 -- the most rows (document 02, T-06)
 abbrev pub max_rows : ℕ
@@ -41,21 +37,21 @@ length_good m = eqb (length m) (1 + 4 * rows_in m) && leb 1 (rows_in m) && leb (
 unfoldable pub is_bad : List ℕ → ℕ → Bool
 is_bad m i = not (rows.well_formed (row_at m i))
 
-abbrev pub by_rows : ℕ → Found → Checked
-by_rows n (At i) = Refused (BadRow i)
-by_rows n Nothing = Accepted n
+abbrev pub by_rows : ℕ → Option ℕ → Result ℕ Refusal
+by_rows n (Some i) = Err (BadRow i)
+by_rows n None = Ok n
 
 -- the number of rows, or the first refusal that applies; of ill-formed rows the lowest is named
-unfoldable pub check : List ℕ → Checked
+unfoldable pub check : List ℕ → Result ℕ Refusal
 check m =
-    pick (not (length_good m)) (Refused BadLength)
-    (pick (not (control.well_formed (control_of m))) (Refused BadControl)
+    pick (not (length_good m)) (Err BadLength)
+    (pick (not (control.well_formed (control_of m))) (Err BadControl)
     (by_rows (rows_in m) (lowest (is_bad m) (rows_in m) 0)))
 
 -- refusals 1, 2 and 3 come first in every call: a refused image is answered so, an accepted one of n rows goes on
-abbrev pub checked : {A : Type 0} → Checked → (Refusal → A) → (ℕ → A) → A
-checked (Refused why) refused next = refused why
-checked (Accepted n) refused next = next n
+abbrev pub checked : {A : Type 0} → Result ℕ Refusal → (Refusal → A) → (ℕ → A) → A
+checked (Err why) refused next = refused why
+checked (Ok n) refused next = next n
 
 -- the paper's number of each refusal
 abbrev pub number : Refusal → ℕ

@@ -6,7 +6,6 @@ ghost use Rattle.words.specs.Search.{lowest};
 ghost use Rattle.image.specs.Image.{row_at, is_bad, is_used, check, used_rows};
 
 use rows::Row;
-use words::Found;
 
 // The most rows.
 pub const MAX_ROWS: usize = 1000;
@@ -17,13 +16,6 @@ pub enum Refusal {
     BadLength,
     BadControl,
     BadRow(usize),
-}
-
-// What a check answers: the number of rows, or a refusal.
-#[derive(Clone, Copy)]
-pub enum Checked {
-    Accepted(usize),
-    Refused(Refusal),
 }
 
 // The four words of row i.
@@ -47,40 +39,40 @@ fn is_bad(kept: &[u64], i: usize) -> bool
     !row_forms::well_formed(row_at(kept, i))
 }
 
-fn lowest_bad(kept: &[u64], n: usize) -> Found
+fn lowest_bad(kept: &[u64], n: usize) -> Option<usize>
     requires { 4 * n + 1 ≤ length kept.now }
     ensures { result ≡ lowest (is_bad kept.now) n 0 }
 {
     let mut i = 0;
     while i < n {
         if is_bad(kept, i) {
-            return Found::At(i);
+            return Some(i);
         }
         i += 1;
     }
-    Found::Nothing
+    None
 }
 
 // The number of rows, or refusal 1, 2 or 3.
-pub fn check(kept: &[u64]) -> Checked
+pub fn check(kept: &[u64]) -> Result<usize, Refusal>
     ensures { result ≡ check kept.now }
 {
     let n = kept.len() / 4;
     if kept.len() != 1 + 4 * n {
-        return Checked::Refused(Refusal::BadLength);
+        return Err(Refusal::BadLength);
     }
     if n < 1 {
-        return Checked::Refused(Refusal::BadLength);
+        return Err(Refusal::BadLength);
     }
     if MAX_ROWS < n {
-        return Checked::Refused(Refusal::BadLength);
+        return Err(Refusal::BadLength);
     }
     if !control::well_formed(kept[0]) {
-        return Checked::Refused(Refusal::BadControl);
+        return Err(Refusal::BadControl);
     }
     match lowest_bad(kept, n) {
-        Found::At(i) => Checked::Refused(Refusal::BadRow(i)),
-        Found::Nothing => Checked::Accepted(n),
+        Some(i) => Err(Refusal::BadRow(i)),
+        None => Ok(n),
     }
 }
 

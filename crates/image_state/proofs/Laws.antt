@@ -11,23 +11,22 @@ use borrow.Author.Tests.{eq-eqb, ne_eqb}
 use Rattle.words.specs.Bytes.{word_at}
 use Rattle.image.specs.declared.Refusal.{Refusal}
 use Rattle.image.specs.declared.Refusal.TheVariants.{BadLength}
-use Rattle.image.specs.declared.Checked.TheVariants.{Accepted, Refused as NotAccepted}
+use Rattle.std.specs.Prelude.{Err, Ok}
 use Rattle.image.specs.Image.{max_rows, control_of, check, used_rows}
 use Rattle.image.proofs.Checks.{Long, refuses_length, says}
-use Rattle.image_state.specs.declared.StateAnswer.TheVariants.{Refused, Is}
 use Rattle.image_state.specs.States.{told, state_of, words_in, state_in}
 
 module _ (m : List ℕ) where
-  pub refused : (why : Refusal) → check m ≡ NotAccepted why → state_of m ≡ Refused why
+  pub refused : (why : Refusal) → check m ≡ Err why → state_of m ≡ Err why
   unfolding state_of
   refused why e = rw e
 
-  pub is : (n : ℕ) → check m ≡ Accepted n → state_of m ≡ Is (told (control_of m) (used_rows m n))
+  pub is : (n : ℕ) → check m ≡ Ok n → state_of m ≡ Ok (told (control_of m) (used_rows m n))
   unfolding state_of
   is n e = rw e
 
   -- an accepted image has its control word and n rows
-  pub has-rows : (n : ℕ) → check m ≡ Accepted n → 4 * n + 1 ≤ length m
+  pub has-rows : (n : ℕ) → check m ≡ Ok n → 4 * n + 1 ≤ length m
   has-rows n e = omega (arith, ((says m).accepted n e).size.words)
 
 pub words_length : (bytes : List ℕ) (n : ℕ) → length (words_in bytes n) ≡ n
@@ -42,7 +41,7 @@ unfolding words_in
 gathered bytes out i h e = rw (add-one i, take-suc-set out i (word_at bytes (8 * i)) h, e)
 
 module _ (bytes : List ℕ) where
-  pub broken : (length bytes ≡ 8 * (length bytes / 8) → ⊥) → state_in bytes ≡ Refused BadLength
+  pub broken : (length bytes ≡ 8 * (length bytes / 8) → ⊥) → state_in bytes ≡ Err BadLength
   unfolding state_in
   broken d = rw (ne_eqb (length bytes % 8) 0 (λ e. d (omega arith)))
 
@@ -51,7 +50,7 @@ module _ (bytes : List ℕ) where
   whole e = rw (eq-eqb (length bytes % 8) 0 (omega arith))
 
   -- more words than any image has
-  pub too_long : length bytes ≡ 8 * (length bytes / 8) → 1 + 4 * max_rows < length bytes / 8 → state_in bytes ≡ Refused BadLength
+  pub too_long : length bytes ≡ 8 * (length bytes / 8) → 1 + 4 * max_rows < length bytes / 8 → state_in bytes ≡ Err BadLength
   too_long e h = whole e ∙ refused (words_in bytes (length bytes / 8)) BadLength (refuses_length (words_in bytes (length bytes / 8)) never)
     where
       never : (n : ℕ) → Long (words_in bytes (length bytes / 8)) n → ⊥

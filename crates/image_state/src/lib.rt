@@ -4,7 +4,7 @@
 ghost use Rattle.std.specs.Prelude.{◌≡◌, ◌*◌, ◌≤◌, length, take};
 ghost use Rattle.image_state.specs.States.{state_of, words_in, state_in};
 
-use image::{Checked, Refusal};
+use image::Refusal;
 
 #[derive(Clone, Copy)]
 pub struct State {
@@ -16,34 +16,24 @@ pub struct State {
     pub used: u64,
 }
 
-#[derive(Clone, Copy)]
-pub enum StateAnswer {
-    Refused(Refusal),
-    Is(State),
-}
-
 // The words of the largest image.
 const WORDS: usize = 1 + 4 * image::MAX_ROWS;
 
 // The state of an accepted image.
-pub fn state_of(kept: &[u64]) -> StateAnswer
+pub fn state_of(kept: &[u64]) -> Result<State, Refusal>
     ensures { result ≡ state_of kept.now }
 {
-    match image::check(kept) {
-        Checked::Refused(why) => StateAnswer::Refused(why),
-        Checked::Accepted(n) => {
-            let w = kept[0];
-            let c = control::fields_of(w);
-            StateAnswer::Is(State {
-                rd: c.rd,
-                wr: c.wr,
-                err: c.err,
-                active: control::active(w),
-                enabled: !(c.cmdqen == 0),
-                used: image::used_rows(kept, n) as u64,
-            })
-        }
-    }
+    let n = image::check(kept)?;
+    let w = kept[0];
+    let c = control::fields_of(w);
+    Ok(State {
+        rd: c.rd,
+        wr: c.wr,
+        err: c.err,
+        active: control::active(w),
+        enabled: !(c.cmdqen == 0),
+        used: image::used_rows(kept, n) as u64,
+    })
 }
 
 // Puts the first n words of the bytes into `out`.
@@ -59,15 +49,15 @@ fn gather(bytes: &[u8], out: &mut [u64], n: usize)
 }
 
 // The state of the image whose bytes these are. A broken last word, or more bytes than any image has, is a bad length.
-pub fn state_in(bytes: &[u8]) -> StateAnswer
+pub fn state_in(bytes: &[u8]) -> Result<State, Refusal>
     ensures { result ≡ state_in bytes.now }
 {
     let n = bytes.len() / 8;
     if bytes.len() != 8 * n {
-        return StateAnswer::Refused(Refusal::BadLength);
+        return Err(Refusal::BadLength);
     }
     if WORDS < n {
-        return StateAnswer::Refused(Refusal::BadLength);
+        return Err(Refusal::BadLength);
     }
     let mut kept = [0u64; WORDS];
     gather(bytes, &mut kept, n);

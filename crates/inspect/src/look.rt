@@ -3,12 +3,10 @@ ghost use Rattle.std.specs.Prelude.{◌+◌, ◌*◌, ◌≤◌, length};
 
 use crate::files;
 use commands::Features;
-use events::Checked;
 use rows::{Row, kinds, marks};
 use std::io;
 use std::io::Write;
 use text::{one, say, two};
-use words::Found;
 
 // `good`: nothing is refused. `raised`: a run raises an error.
 pub fn told(
@@ -90,7 +88,7 @@ fn doubled_row(out: &mut impl Write, kept: &[u64], j: usize) -> io::Result<bool>
     if !(rows::may_answer(row) & row_forms::well_formed(row)) {
         return Ok(false);
     }
-    if let Found::At(i) = shadow_of(kept, j, row) {
+    if let Some(i) = shadow_of(kept, j, row) {
         two(
             &mut *out,
             b"  row # never answers: row # answers all that it could\n",
@@ -103,15 +101,15 @@ fn doubled_row(out: &mut impl Write, kept: &[u64], j: usize) -> io::Result<bool>
 }
 
 // The lowest row below j that answers whatever the row there could.
-fn shadow_of(kept: &[u64], j: usize, row: Row) -> Found
+fn shadow_of(kept: &[u64], j: usize, row: Row) -> Option<usize>
     requires { 4 * j + 5 ≤ length kept.now }
 {
     for i in 0..j {
         if shadows(image::row_at(kept, i), row) {
-            return Found::At(i);
+            return Some(i);
         }
     }
-    Found::Nothing
+    None
 }
 
 fn doubles_told(out: &mut impl Write, kept: &[u64], j: usize, row: Row) -> io::Result<bool>
@@ -204,7 +202,7 @@ fn marked_told(out: &mut impl Write, i: u64, row: Row) -> io::Result<bool> {
 
 // Of a recorder that is accepted.
 fn dropped(out: &mut impl Write, events: &[u64]) -> io::Result<bool> {
-    if let Checked::Refused(_) = events::check(events) {
+    if let Err(_) = events::check(events) {
         return Ok(false);
     }
     if !events::outstanding(files::first(events)) {

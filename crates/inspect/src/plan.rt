@@ -4,7 +4,6 @@ use crate::files::Size;
 use std::io;
 use std::io::Write;
 use text::{one, say, two};
-use words::Found;
 
 // More stores no run makes: a row, a region or a command each.
 const MOST: usize = image::MAX_ROWS + regions::MAX_ROWS + (1 << control::MAX_LOG2);
@@ -143,7 +142,7 @@ fn store(
 ) -> io::Result<()> {
     let w = files::first(rows);
     let slot = control::slot_of(w);
-    if let Found::At(i) = changed(kept, rows) {
+    if let Some(i) = changed(kept, rows) {
         if i == 0 {
             moved(&mut *out, w, files::first(kept), answer)?;
         } else {
@@ -154,7 +153,7 @@ fn store(
                 slot,
             )?;
         }
-    } else if let Found::At(i) = changed(table, regions) {
+    } else if let Some(i) = changed(table, regions) {
         two(
             &mut *out,
             b"region # of the second table is removed by the command in slot #\n",
@@ -166,18 +165,18 @@ fn store(
 }
 
 // The first word that differs.
-fn changed(a: &[u64], b: &[u64]) -> Found {
+fn changed(a: &[u64], b: &[u64]) -> Option<usize> {
     let mut i = 0;
     while i < a.len() {
         if b.len() <= i {
             break;
         }
         if a[i] != b[i] {
-            return Found::At(i);
+            return Some(i);
         }
         i += 1;
     }
-    Found::Nothing
+    None
 }
 
 // The control word before and after.

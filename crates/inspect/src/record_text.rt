@@ -3,7 +3,7 @@ ghost use Rattle.std.specs.Prelude.{◌+◌, ◌*◌, ◌≤◌, length};
 
 use crate::files;
 use crate::files::Size;
-use events::{Checked, Record, Refusal};
+use events::{Record, Refusal};
 use std::io;
 use std::io::Write;
 use text::{bit, one, say, told as said, two};
@@ -20,11 +20,11 @@ pub fn told(out: &mut impl Write, events: &[u64], size: Size) -> io::Result<bool
         return Ok(false);
     }
     match events::check(events) {
-        Checked::Accepted(_) => {
+        Ok(_) => {
             accepted(&mut *out, events)?;
             Ok(true)
         }
-        Checked::Refused(why) => {
+        Err(why) => {
             refused(&mut *out, why)?;
             damaged(&mut *out, events, size)?;
             Ok(false)

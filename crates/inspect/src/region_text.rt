@@ -1,7 +1,7 @@
 // The second table: cached regions of the device permission table (document 02, T-11).
 use crate::files;
 use crate::files::Size;
-use regions::{Checked, Refusal, Region};
+use regions::{Refusal, Region};
 use std::io;
 use std::io::Write;
 use text::{bit, one, say, three};
@@ -24,11 +24,11 @@ fn verdict(out: &mut impl Write, table: &[u64], size: Size) -> io::Result<bool> 
         return Ok(false);
     }
     match regions::check(table) {
-        Checked::Accepted(n) => {
+        Ok(n) => {
             one(&mut *out, b"  accepted by the unit, rows: #\n", n as u64)?;
             Ok(true)
         }
-        Checked::Refused(why) => {
+        Err(why) => {
             refused(&mut *out, why)?;
             Ok(false)
         }

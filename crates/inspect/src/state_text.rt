@@ -2,7 +2,7 @@
 use crate::files;
 use crate::files::Size;
 use control::Fields;
-use image::{Checked, Refusal};
+use image::Refusal;
 use std::io;
 use std::io::Write;
 use text::{bit, one, say, three, two};
@@ -37,11 +37,11 @@ fn verdict(out: &mut impl Write, kept: &[u64], size: Size) -> io::Result<bool> {
         return Ok(false);
     }
     match image::check(kept) {
-        Checked::Accepted(_) => {
+        Ok(_) => {
             say(&mut *out, b"  accepted by the unit\n")?;
             Ok(true)
         }
-        Checked::Refused(why) => {
+        Err(why) => {
             refused(&mut *out, why)?;
             Ok(false)
         }

@@ -1,18 +1,14 @@
 -- The C interface: what a caller of the recorder is told (document 02, T-01).
 -- Assumes nothing.
-use Rattle.std.specs.Prelude.{[], ◌∷◌}
+use Rattle.std.specs.Prelude.{[], ◌∷◌, Err, Ok, Result, ⊤}
 use Rattle.events.specs.declared.Refusal.{Refusal}
 use Rattle.events.specs.Events as events
-use Rattle.event_calls.specs.declared.WriteAnswer.{WriteAnswer}
-use Rattle.event_calls.specs.declared.WriteAnswer.TheVariants.{Refused as NotWritten, Done}
+use Rattle.event_calls.specs.declared.Writing.{Writing}
+use Rattle.events.specs.declared.Record.{Record}
 use Rattle.event_calls.specs.declared.ReadRefusal.{ReadRefusal}
 use Rattle.event_calls.specs.declared.ReadRefusal.TheVariants.{Recorder as Read-as-Recorder, Empty}
-use Rattle.event_calls.specs.declared.ReadAnswer.{ReadAnswer}
-use Rattle.event_calls.specs.declared.ReadAnswer.TheVariants.{Refused as NotRead, Oldest}
 use Rattle.event_calls.specs.declared.AcknowledgeRefusal.{AcknowledgeRefusal}
 use Rattle.event_calls.specs.declared.AcknowledgeRefusal.TheVariants.{Recorder as Acknowledge-as-Recorder, NoOverflow}
-use Rattle.event_calls.specs.declared.AcknowledgeAnswer.{AcknowledgeAnswer}
-use Rattle.event_calls.specs.declared.AcknowledgeAnswer.TheVariants.{Refused as NotAcknowledged, Acknowledged}
 use Rattle.event_calls.specs.Calls as calls
 use Rattle.interface.specs.declared.Reply.{Reply}
 use Rattle.interface.specs.Replies.{nothing}
@@ -22,9 +18,9 @@ abbrev pub recorder_reply : Refusal → Reply
 recorder_reply why = nothing (events.number why)
 
 -- a write: its end, and its stores
-abbrev pub event_write_reply : WriteAnswer → Reply
-event_write_reply (NotWritten why) = recorder_reply why
-event_write_reply (Done writing) =
+abbrev pub event_write_reply : Result Writing Refusal → Reply
+event_write_reply (Err why) = recorder_reply why
+event_write_reply (Ok writing) =
     record { code = 0; words = calls.end_number writing.end ∷ writing.stores ∷ 0 ∷ 0 ∷ 0 ∷ 0 ∷ 0 ∷ 0 ∷ [] }
 
 -- a read: the record's four words
@@ -32,15 +28,15 @@ abbrev pub event_read_refusal : ReadRefusal → Reply
 event_read_refusal (Read-as-Recorder why) = recorder_reply why
 event_read_refusal Empty = nothing (calls.read_number Empty)
 
-abbrev pub event_read_reply : ReadAnswer → Reply
-event_read_reply (NotRead why) = event_read_refusal why
-event_read_reply (Oldest r) = record { code = 0; words = r.w0 ∷ r.w1 ∷ r.w2 ∷ r.w3 ∷ 0 ∷ 0 ∷ 0 ∷ 0 ∷ [] }
+abbrev pub event_read_reply : Result Record ReadRefusal → Reply
+event_read_reply (Err why) = event_read_refusal why
+event_read_reply (Ok r) = record { code = 0; words = r.w0 ∷ r.w1 ∷ r.w2 ∷ r.w3 ∷ 0 ∷ 0 ∷ 0 ∷ 0 ∷ [] }
 
 -- an acknowledge tells nothing more
 abbrev pub event_acknowledge_refusal : AcknowledgeRefusal → Reply
 event_acknowledge_refusal (Acknowledge-as-Recorder why) = recorder_reply why
 event_acknowledge_refusal NoOverflow = nothing (calls.acknowledge_number NoOverflow)
 
-abbrev pub event_acknowledge_reply : AcknowledgeAnswer → Reply
-event_acknowledge_reply (NotAcknowledged why) = event_acknowledge_refusal why
-event_acknowledge_reply Acknowledged = nothing 0
+abbrev pub event_acknowledge_reply : Result ⊤ AcknowledgeRefusal → Reply
+event_acknowledge_reply (Err why) = event_acknowledge_refusal why
+event_acknowledge_reply (Ok tt) = nothing 0

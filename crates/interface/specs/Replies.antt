@@ -1,6 +1,6 @@
 -- The C interface: what a caller is told, 0 or the refusal's number, and eight words, zero but for those named.
 -- Assumes nothing.
-use Rattle.std.specs.Prelude.{Bool, [], ◌∷◌, ℕ}
+use Rattle.std.specs.Prelude.{Bool, [], ◌∷◌, ℕ, Err, Ok, Result, ⊤}
 use Rattle.words.specs.Choice.{pick}
 use Rattle.image.specs.declared.Refusal.{Refusal}
 use Rattle.image.specs.declared.Refusal.TheVariants.{BadLength, BadControl, BadRow}
@@ -13,40 +13,27 @@ use Rattle.runs.specs.declared.End.{End}
 use Rattle.runs.specs.declared.End.TheVariants.{Off, Held, Empty, Raised, Cut as Run-as-Cut}
 use Rattle.runs.specs.declared.RunRefusal.{RunRefusal}
 use Rattle.runs.specs.declared.RunRefusal.TheVariants.{Image as Run-as-Image, Table as Run-as-Table, BadQueue}
-use Rattle.runs.specs.declared.RunAnswer.{RunAnswer}
-use Rattle.runs.specs.declared.RunAnswer.TheVariants.{Refused as NotRun, Done as DidRun}
+use Rattle.runs.specs.declared.Ran.{Ran}
+use Rattle.fills.specs.declared.Filling.{Filling}
+use Rattle.image_state.specs.declared.State.{State}
 use Rattle.runs.specs.Running as running
 use Rattle.runs.specs.Call as runs
 use Rattle.fills.specs.declared.FillRefusal.{FillRefusal}
 use Rattle.fills.specs.declared.FillRefusal.TheVariants.{Image as Fill-as-Image, NoSuchRow, RowInUse, Unfit, Doubled}
-use Rattle.fills.specs.declared.FillAnswer.{FillAnswer}
-use Rattle.fills.specs.declared.FillAnswer.TheVariants.{Refused as NotFilled, Done as DidFill}
 use Rattle.fills.specs.Fills as fills
 use Rattle.control_calls.specs.declared.DoorbellRefusal.{DoorbellRefusal}
 use Rattle.control_calls.specs.declared.DoorbellRefusal.TheVariants.{Image as Doorbell-as-Image, BadIndex}
-use Rattle.control_calls.specs.declared.DoorbellAnswer.{DoorbellAnswer}
-use Rattle.control_calls.specs.declared.DoorbellAnswer.TheVariants.{Refused as NotRung, Rung}
 use Rattle.control_calls.specs.declared.AcknowledgeRefusal.{AcknowledgeRefusal}
 use Rattle.control_calls.specs.declared.AcknowledgeRefusal.TheVariants.{Image as Acknowledge-as-Image, NoError}
-use Rattle.control_calls.specs.declared.AcknowledgeAnswer.{AcknowledgeAnswer}
-use Rattle.control_calls.specs.declared.AcknowledgeAnswer.TheVariants.{Refused as NotAcknowledged, Acknowledged}
 use Rattle.control_calls.specs.declared.ClearRefusal.{ClearRefusal}
 use Rattle.control_calls.specs.declared.ClearRefusal.TheVariants.{Image as Clear-as-Image, NotPending}
-use Rattle.control_calls.specs.declared.ClearAnswer.{ClearAnswer}
-use Rattle.control_calls.specs.declared.ClearAnswer.TheVariants.{Refused as NotCleared, Cleared}
-use Rattle.control_calls.specs.declared.EnableAnswer.{EnableAnswer}
-use Rattle.control_calls.specs.declared.EnableAnswer.TheVariants.{Refused as NotSwitched, Switched}
 use Rattle.control_calls.specs.Calls as control-calls
 use Rattle.transactions.specs.declared.Miss.{Miss}
 use Rattle.transactions.specs.declared.Outcome.{Outcome}
 use Rattle.transactions.specs.declared.Outcome.TheVariants.{Translated, Abort, Missed}
 use Rattle.transactions.specs.declared.TransactionRefusal.{TransactionRefusal}
 use Rattle.transactions.specs.declared.TransactionRefusal.TheVariants.{Image as Transaction-as-Image, IllFormed}
-use Rattle.transactions.specs.declared.TransactionAnswer.{TransactionAnswer}
-use Rattle.transactions.specs.declared.TransactionAnswer.TheVariants.{Refused as NotTranslated, Done as DidTranslate}
 use Rattle.transactions.specs.Call as transactions
-use Rattle.image_state.specs.declared.StateAnswer.{StateAnswer}
-use Rattle.image_state.specs.declared.StateAnswer.TheVariants.{Refused as NoState, Is}
 use Rattle.interface.specs.declared.Reply.{Reply}
 
 abbrev pub bit_of : Bool → ℕ
@@ -94,9 +81,9 @@ run_refusal (Run-as-Image why) = image_reply why
 run_refusal (Run-as-Table why) = table_reply why
 run_refusal BadQueue = nothing (runs.number BadQueue)
 
-abbrev pub run_reply : RunAnswer → Reply
-run_reply (NotRun why) = run_refusal why
-run_reply (DidRun ran) =
+abbrev pub run_reply : Result Ran RunRefusal → Reply
+run_reply (Err why) = run_refusal why
+run_reply (Ok ran) =
     record {
       code = 0;
       words = running.end_number ran.end ∷ ran.consumed ∷ ran.stores ∷ ran.removed ∷ ran.syncs ∷ reason_in ran.end ∷ slot_in ran.end ∷ 0 ∷ [];
@@ -110,9 +97,9 @@ fill_refusal RowInUse = nothing (fills.number RowInUse)
 fill_refusal Unfit = nothing (fills.number Unfit)
 fill_refusal Doubled = nothing (fills.number Doubled)
 
-abbrev pub fill_reply : FillAnswer → Reply
-fill_reply (NotFilled why) = fill_refusal why
-fill_reply (DidFill filling) =
+abbrev pub fill_reply : Result Filling FillRefusal → Reply
+fill_reply (Err why) = fill_refusal why
+fill_reply (Ok filling) =
     record { code = 0; words = fills.end_number filling.end ∷ filling.stores ∷ 0 ∷ 0 ∷ 0 ∷ 0 ∷ 0 ∷ 0 ∷ [] }
 
 -- the calls of one control store tell nothing more
@@ -120,30 +107,30 @@ abbrev pub doorbell_refusal : DoorbellRefusal → Reply
 doorbell_refusal (Doorbell-as-Image why) = image_reply why
 doorbell_refusal BadIndex = nothing (control-calls.doorbell_number BadIndex)
 
-abbrev pub doorbell_reply : DoorbellAnswer → Reply
-doorbell_reply (NotRung why) = doorbell_refusal why
-doorbell_reply Rung = nothing 0
+abbrev pub doorbell_reply : Result ⊤ DoorbellRefusal → Reply
+doorbell_reply (Err why) = doorbell_refusal why
+doorbell_reply (Ok tt) = nothing 0
 
 abbrev pub acknowledge_refusal : AcknowledgeRefusal → Reply
 acknowledge_refusal (Acknowledge-as-Image why) = image_reply why
 acknowledge_refusal NoError = nothing (control-calls.acknowledge_number NoError)
 
-abbrev pub acknowledge_reply : AcknowledgeAnswer → Reply
-acknowledge_reply (NotAcknowledged why) = acknowledge_refusal why
-acknowledge_reply Acknowledged = nothing 0
+abbrev pub acknowledge_reply : Result ⊤ AcknowledgeRefusal → Reply
+acknowledge_reply (Err why) = acknowledge_refusal why
+acknowledge_reply (Ok tt) = nothing 0
 
 -- document 02, T-08
 abbrev pub clear_refusal : ClearRefusal → Reply
 clear_refusal (Clear-as-Image why) = image_reply why
 clear_refusal NotPending = nothing (control-calls.clear_number NotPending)
 
-abbrev pub clear_reply : ClearAnswer → Reply
-clear_reply (NotCleared why) = clear_refusal why
-clear_reply Cleared = nothing 0
+abbrev pub clear_reply : Result ⊤ ClearRefusal → Reply
+clear_reply (Err why) = clear_refusal why
+clear_reply (Ok tt) = nothing 0
 
-abbrev pub enable_reply : EnableAnswer → Reply
-enable_reply (NotSwitched why) = image_reply why
-enable_reply Switched = nothing 0
+abbrev pub enable_reply : Result ⊤ Refusal → Reply
+enable_reply (Err why) = image_reply why
+enable_reply (Ok tt) = nothing 0
 
 -- a transaction: its outcome, and of an address that address, MemAttr, SH, hints, instruction, privileged
 abbrev pub miss_number : Miss → ℕ
@@ -170,12 +157,12 @@ abbrev pub transaction_refusal : TransactionRefusal → Reply
 transaction_refusal (Transaction-as-Image why) = image_reply why
 transaction_refusal IllFormed = nothing (transactions.number IllFormed)
 
-abbrev pub translate_reply : TransactionAnswer → Reply
-translate_reply (NotTranslated why) = transaction_refusal why
-translate_reply (DidTranslate o) = outcome_reply o
+abbrev pub translate_reply : Result Outcome TransactionRefusal → Reply
+translate_reply (Err why) = transaction_refusal why
+translate_reply (Ok o) = outcome_reply o
 
 -- a state: RD, WR, ERR, active, enabled, used rows
-abbrev pub state_reply : StateAnswer → Reply
-state_reply (NoState why) = image_reply why
-state_reply (Is s) =
+abbrev pub state_reply : Result State Refusal → Reply
+state_reply (Err why) = image_reply why
+state_reply (Ok s) =
     record { code = 0; words = s.rd ∷ s.wr ∷ s.err ∷ bit_of s.active ∷ bit_of s.enabled ∷ s.used ∷ 0 ∷ 0 ∷ [] }

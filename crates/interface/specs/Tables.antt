@@ -1,11 +1,10 @@
 -- The C interface: what a caller of the second table's calls is told (document 02, T-11).
 -- Assumes nothing.
-use Rattle.std.specs.Prelude.{[], ◌∷◌}
+use Rattle.std.specs.Prelude.{[], ◌∷◌, Err, Ok, Result}
 use Rattle.fills.specs.Fills.{end_number}
 use Rattle.region_fills.specs.declared.FillRefusal.{FillRefusal}
 use Rattle.region_fills.specs.declared.FillRefusal.TheVariants.{Image, Table, NoSuchRow, RowInUse, Unfit}
-use Rattle.region_fills.specs.declared.FillAnswer.{FillAnswer}
-use Rattle.region_fills.specs.declared.FillAnswer.TheVariants.{Refused as NotFilled, Done}
+use Rattle.fills.specs.declared.Filling.{Filling}
 use Rattle.region_fills.specs.Fills.{number}
 use Rattle.interface.specs.declared.Reply.{Reply}
 use Rattle.interface.specs.Replies.{nothing, image_reply, table_reply}
@@ -18,7 +17,7 @@ table_fill_refusal NoSuchRow = nothing (number NoSuchRow)
 table_fill_refusal RowInUse = nothing (number RowInUse)
 table_fill_refusal Unfit = nothing (number Unfit)
 
-abbrev pub table_fill_reply : FillAnswer → Reply
-table_fill_reply (NotFilled why) = table_fill_refusal why
-table_fill_reply (Done filling) =
+abbrev pub table_fill_reply : Result Filling FillRefusal → Reply
+table_fill_reply (Err why) = table_fill_refusal why
+table_fill_reply (Ok filling) =
     record { code = 0; words = end_number filling.end ∷ filling.stores ∷ 0 ∷ 0 ∷ 0 ∷ 0 ∷ 0 ∷ 0 ∷ [] }

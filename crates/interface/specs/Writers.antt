@@ -1,15 +1,11 @@
 -- The C interface: what a caller of the writers is told (document 02, T-10).
 -- Assumes nothing.
-use Rattle.std.specs.Prelude.{[], ◌∷◌}
+use Rattle.std.specs.Prelude.{[], ◌∷◌, Err, Ok, Result, ⊤}
 use Rattle.writer.specs.declared.WriteRefusal.{WriteRefusal}
 use Rattle.writer.specs.declared.WriteRefusal.TheVariants.{BadSlot, Bad}
-use Rattle.writer.specs.declared.WriteAnswer.{WriteAnswer}
-use Rattle.writer.specs.declared.WriteAnswer.TheVariants.{Refused as NotWritten, Written}
 use Rattle.writer.specs.Writing as writer
 use Rattle.batch_writes.specs.declared.BatchRefusal.{BatchRefusal}
 use Rattle.batch_writes.specs.declared.BatchRefusal.TheVariants.{Image, BadQueue, BadCommand, NoRoom}
-use Rattle.batch_writes.specs.declared.BatchAnswer.{BatchAnswer}
-use Rattle.batch_writes.specs.declared.BatchAnswer.TheVariants.{Refused as NotRung, Rung}
 use Rattle.batch_writes.specs.Batch as batch
 use Rattle.interface.specs.declared.Reply.{Reply}
 use Rattle.interface.specs.Replies.{nothing, image_reply}
@@ -19,9 +15,9 @@ abbrev pub write_refusal : WriteRefusal → Reply
 write_refusal BadSlot = nothing (writer.number BadSlot)
 write_refusal (Bad why) = nothing (writer.number (Bad why))
 
-abbrev pub write_reply : WriteAnswer → Reply
-write_reply (NotWritten why) = write_refusal why
-write_reply Written = nothing 0
+abbrev pub write_reply : Result ⊤ WriteRefusal → Reply
+write_reply (Err why) = write_refusal why
+write_reply (Ok tt) = nothing 0
 
 -- a batch names its first bad command
 abbrev pub batch_refusal : BatchRefusal → Reply
@@ -31,6 +27,6 @@ batch_refusal (BadCommand i why) =
     record { code = batch.number (BadCommand i why); words = i ∷ 0 ∷ 0 ∷ 0 ∷ 0 ∷ 0 ∷ 0 ∷ 0 ∷ [] }
 batch_refusal NoRoom = nothing (batch.number NoRoom)
 
-abbrev pub batch_reply : BatchAnswer → Reply
-batch_reply (NotRung why) = batch_refusal why
-batch_reply Rung = nothing 0
+abbrev pub batch_reply : Result ⊤ BatchRefusal → Reply
+batch_reply (Err why) = batch_refusal why
+batch_reply (Ok tt) = nothing 0

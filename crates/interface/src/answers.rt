@@ -7,15 +7,12 @@ ghost use Rattle.interface.specs.Replies.{bit_of, nothing, image_reply, table_re
 
 use crate::Reply;
 use commands::Reason;
-use control_calls::{
-    AcknowledgeAnswer, AcknowledgeRefusal, ClearAnswer, ClearRefusal, DoorbellAnswer,
-    DoorbellRefusal, EnableAnswer,
-};
-use fills::{FillAnswer, FillEnd, FillRefusal};
+use control_calls::{AcknowledgeRefusal, ClearRefusal, DoorbellRefusal};
+use fills::{FillEnd, FillRefusal, Filling};
 use image::Refusal;
-use image_state::StateAnswer;
-use runs::{End, RunAnswer, RunRefusal};
-use transactions::{Miss, Outcome, TransactionAnswer, TransactionRefusal};
+use image_state::State;
+use runs::{End, Ran, RunRefusal};
+use transactions::{Miss, Outcome, TransactionRefusal};
 
 fn bit_of(on: bool) -> u64
     ensures { result ≡ bit_of on }
@@ -124,12 +121,12 @@ fn run_refusal(why: RunRefusal) -> Reply
     }
 }
 
-pub fn run_reply(a: RunAnswer) -> Reply
+pub fn run_reply(a: Result<Ran, RunRefusal>) -> Reply
     ensures { result ≡ run_reply a }
 {
     match a {
-        RunAnswer::Refused(why) => run_refusal(why),
-        RunAnswer::Done(ran) => {
+        Err(why) => run_refusal(why),
+        Ok(ran) => {
             let e = ran.end;
             Reply {
                 code: 0,
@@ -169,12 +166,12 @@ fn fill_refusal(why: FillRefusal) -> Reply
     }
 }
 
-pub fn fill_reply(a: FillAnswer) -> Reply
+pub fn fill_reply(a: Result<Filling, FillRefusal>) -> Reply
     ensures { result ≡ fill_reply a }
 {
     match a {
-        FillAnswer::Refused(why) => fill_refusal(why),
-        FillAnswer::Done(filling) => {
+        Err(why) => fill_refusal(why),
+        Ok(filling) => {
             let e = filling.end;
             Reply {
                 code: 0,
@@ -193,12 +190,12 @@ fn doorbell_refusal(why: DoorbellRefusal) -> Reply
     }
 }
 
-pub fn doorbell_reply(a: DoorbellAnswer) -> Reply
+pub fn doorbell_reply(a: Result<(), DoorbellRefusal>) -> Reply
     ensures { result ≡ doorbell_reply a }
 {
     match a {
-        DoorbellAnswer::Refused(why) => doorbell_refusal(why),
-        DoorbellAnswer::Rung => nothing(0),
+        Err(why) => doorbell_refusal(why),
+        Ok(()) => nothing(0),
     }
 }
 
@@ -211,12 +208,12 @@ fn acknowledge_refusal(why: AcknowledgeRefusal) -> Reply
     }
 }
 
-pub fn acknowledge_reply(a: AcknowledgeAnswer) -> Reply
+pub fn acknowledge_reply(a: Result<(), AcknowledgeRefusal>) -> Reply
     ensures { result ≡ acknowledge_reply a }
 {
     match a {
-        AcknowledgeAnswer::Refused(why) => acknowledge_refusal(why),
-        AcknowledgeAnswer::Acknowledged => nothing(0),
+        Err(why) => acknowledge_refusal(why),
+        Ok(()) => nothing(0),
     }
 }
 
@@ -229,21 +226,21 @@ fn clear_refusal(why: ClearRefusal) -> Reply
     }
 }
 
-pub fn clear_reply(a: ClearAnswer) -> Reply
+pub fn clear_reply(a: Result<(), ClearRefusal>) -> Reply
     ensures { result ≡ clear_reply a }
 {
     match a {
-        ClearAnswer::Refused(why) => clear_refusal(why),
-        ClearAnswer::Cleared => nothing(0),
+        Err(why) => clear_refusal(why),
+        Ok(()) => nothing(0),
     }
 }
 
-pub fn enable_reply(a: EnableAnswer) -> Reply
+pub fn enable_reply(a: Result<(), Refusal>) -> Reply
     ensures { result ≡ enable_reply a }
 {
     match a {
-        EnableAnswer::Refused(why) => image_reply(why),
-        EnableAnswer::Switched => nothing(0),
+        Err(why) => image_reply(why),
+        Ok(()) => nothing(0),
     }
 }
 
@@ -298,21 +295,21 @@ fn transaction_refusal(why: TransactionRefusal) -> Reply
     }
 }
 
-pub fn translate_reply(a: TransactionAnswer) -> Reply
+pub fn translate_reply(a: Result<Outcome, TransactionRefusal>) -> Reply
     ensures { result ≡ translate_reply a }
 {
     match a {
-        TransactionAnswer::Refused(why) => transaction_refusal(why),
-        TransactionAnswer::Done(o) => outcome_reply(o),
+        Err(why) => transaction_refusal(why),
+        Ok(o) => outcome_reply(o),
     }
 }
 
-pub fn state_reply(a: StateAnswer) -> Reply
+pub fn state_reply(a: Result<State, Refusal>) -> Reply
     ensures { result ≡ state_reply a }
 {
     match a {
-        StateAnswer::Refused(why) => image_reply(why),
-        StateAnswer::Is(s) => Reply {
+        Err(why) => image_reply(why),
+        Ok(s) => Reply {
             code: 0,
             words: [
                 s.rd,

@@ -4,7 +4,7 @@ ghost use Rattle.interface.specs.Checked.{which_number, check_refusal, check_rep
 
 use crate::Reply;
 use crate::answers::{image_reply, nothing, table_reply};
-use batches::{Batch, CheckAnswer, CheckRefusal};
+use batches::{Batch, CheckRefusal, Comparison};
 
 fn which_number(b: Batch) -> u64
     ensures { result ≡ which_number b }
@@ -25,17 +25,17 @@ fn check_refusal(why: CheckRefusal) -> Reply
     }
 }
 
-pub fn check_reply(a: CheckAnswer) -> Reply
+pub fn check_reply(a: Result<Comparison, CheckRefusal>) -> Reply
     ensures { result ≡ check_reply a }
 {
     match a {
-        CheckAnswer::Refused(why) => check_refusal(why),
-        CheckAnswer::Same => nothing(0),
-        CheckAnswer::Unfit(b, k) => Reply {
+        Err(why) => check_refusal(why),
+        Ok(Comparison::Same) => nothing(0),
+        Ok(Comparison::Unfit(b, k)) => Reply {
             code: 0,
             words: [1, which_number(b), k as u64, 0, 0, 0, 0, 0],
         },
-        CheckAnswer::Differ(i) => Reply {
+        Ok(Comparison::Differ(i)) => Reply {
             code: 0,
             words: [2, i as u64, 0, 0, 0, 0, 0, 0],
         },

@@ -5,10 +5,8 @@ ghost use Rattle.interface.specs.Recorded.{recorder_reply, event_write_reply, ev
 
 use crate::Reply;
 use crate::answers::nothing;
-use event_calls::{
-    AcknowledgeAnswer, AcknowledgeRefusal, ReadAnswer, ReadRefusal, WriteAnswer, WriteEnd,
-};
-use events::Refusal;
+use event_calls::{AcknowledgeRefusal, ReadRefusal, WriteEnd, Writing};
+use events::{Record, Refusal};
 
 fn recorder_reply(why: Refusal) -> Reply
     ensures { result ≡ recorder_reply why }
@@ -29,12 +27,12 @@ fn write_end_number(e: WriteEnd) -> u64
     }
 }
 
-pub fn event_write_reply(a: WriteAnswer) -> Reply
+pub fn event_write_reply(a: Result<Writing, Refusal>) -> Reply
     ensures { result ≡ event_write_reply a }
 {
     match a {
-        WriteAnswer::Refused(why) => recorder_reply(why),
-        WriteAnswer::Done(writing) => {
+        Err(why) => recorder_reply(why),
+        Ok(writing) => {
             let e = writing.end;
             Reply {
                 code: 0,
@@ -53,12 +51,12 @@ fn event_read_refusal(why: ReadRefusal) -> Reply
     }
 }
 
-pub fn event_read_reply(a: ReadAnswer) -> Reply
+pub fn event_read_reply(a: Result<Record, ReadRefusal>) -> Reply
     ensures { result ≡ event_read_reply a }
 {
     match a {
-        ReadAnswer::Refused(why) => event_read_refusal(why),
-        ReadAnswer::Oldest(event) => Reply {
+        Err(why) => event_read_refusal(why),
+        Ok(event) => Reply {
             code: 0,
             words: [event.w0, event.w1, event.w2, event.w3, 0, 0, 0, 0],
         },
@@ -74,11 +72,11 @@ fn event_acknowledge_refusal(why: AcknowledgeRefusal) -> Reply
     }
 }
 
-pub fn event_acknowledge_reply(a: AcknowledgeAnswer) -> Reply
+pub fn event_acknowledge_reply(a: Result<(), AcknowledgeRefusal>) -> Reply
     ensures { result ≡ event_acknowledge_reply a }
 {
     match a {
-        AcknowledgeAnswer::Refused(why) => event_acknowledge_refusal(why),
-        AcknowledgeAnswer::Acknowledged => nothing(0),
+        Err(why) => event_acknowledge_refusal(why),
+        Ok(()) => nothing(0),
     }
 }

@@ -4,7 +4,8 @@ ghost use Rattle.interface.specs.Tables.{table_fill_refusal, table_fill_reply};
 
 use crate::Reply;
 use crate::answers::{fill_end_number, image_reply, nothing, table_reply};
-use region_fills::{FillAnswer, FillRefusal};
+use fills::Filling;
+use region_fills::FillRefusal;
 
 fn table_fill_refusal(why: FillRefusal) -> Reply
     ensures { result ≡ table_fill_refusal why }
@@ -18,12 +19,12 @@ fn table_fill_refusal(why: FillRefusal) -> Reply
     }
 }
 
-pub fn table_fill_reply(a: FillAnswer) -> Reply
+pub fn table_fill_reply(a: Result<Filling, FillRefusal>) -> Reply
     ensures { result ≡ table_fill_reply a }
 {
     match a {
-        FillAnswer::Refused(why) => table_fill_refusal(why),
-        FillAnswer::Done(filling) => {
+        Err(why) => table_fill_refusal(why),
+        Ok(filling) => {
             let e = filling.end;
             Reply {
                 code: 0,

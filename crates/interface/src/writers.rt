@@ -5,8 +5,8 @@ ghost use Rattle.interface.specs.Writers.{write_refusal, write_reply, batch_refu
 
 use crate::Reply;
 use crate::answers::{image_reply, nothing};
-use batch_writes::{BatchAnswer, BatchRefusal};
-use writer::{Fault, WriteAnswer, WriteRefusal};
+use batch_writes::BatchRefusal;
+use writer::{Fault, WriteRefusal};
 
 fn fault_number(why: Fault) -> u64
     ensures { result ≡ fault_number why }
@@ -26,12 +26,12 @@ fn write_refusal(why: WriteRefusal) -> Reply
     }
 }
 
-pub fn write_reply(a: WriteAnswer) -> Reply
+pub fn write_reply(a: Result<(), WriteRefusal>) -> Reply
     ensures { result ≡ write_reply a }
 {
     match a {
-        WriteAnswer::Refused(why) => write_refusal(why),
-        WriteAnswer::Written => nothing(0),
+        Err(why) => write_refusal(why),
+        Ok(()) => nothing(0),
     }
 }
 
@@ -49,11 +49,11 @@ fn batch_refusal(why: BatchRefusal) -> Reply
     }
 }
 
-pub fn batch_reply(a: BatchAnswer) -> Reply
+pub fn batch_reply(a: Result<(), BatchRefusal>) -> Reply
     ensures { result ≡ batch_reply a }
 {
     match a {
-        BatchAnswer::Refused(why) => batch_refusal(why),
-        BatchAnswer::Rung => nothing(0),
+        Err(why) => batch_refusal(why),
+        Ok(()) => nothing(0),
     }
 }

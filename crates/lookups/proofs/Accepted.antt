@@ -17,7 +17,7 @@ use Rattle.row_forms.proofs.LastLevel.{ste-mem-attr, span-few, output-placed, st
 use Rattle.image.proofs.Checks.{Accepts, rows_are}
 use Rattle.lookups.specs.declared.Wanted.{Wanted}
 use Rattle.lookups.specs.declared.Wanted.TheVariants.{Ste, Stage1, Stage2}
-use Rattle.lookups.specs.declared.Looked.TheVariants.{Hit}
+use Rattle.std.specs.Prelude.{Some}
 use Rattle.lookups.specs.Lookups.{fits, look}
 use Rattle.lookups.proofs.Laws.{hit_at, hit_answers, only_last, answers-fits}
 
@@ -45,25 +45,25 @@ stage_hit row a k f l e s c v =
     }
 
 module _ (m : List ℕ) (n : ℕ) (ok : Accepts m n) where
-  hit-formed : (w : Wanted) (row : Row) → look m w ≡ Hit row → rows.well_formed row ≡ true
+  hit-formed : (w : Wanted) (row : Row) → look m w ≡ Some row → rows.well_formed row ≡ true
   hit-formed w row h =
       let at = hit_at m w row h in
       rw (← at.row_is) (ok.rows-formed at.place (omega (arith, rows_are m n ok.size, at.lowest_is.below)))
 
-  hit-last : (w : Wanted) (row : Row) → look m w ≡ Hit row → is_last row ≡ true
+  hit-last : (w : Wanted) (row : Row) → look m w ≡ Some row → is_last row ≡ true
   hit-last w row h = only_last w row (hit_answers m w row h)
 
-  hit-fits : (w : Wanted) (row : Row) → look m w ≡ Hit row → fits w row ≡ true
+  hit-fits : (w : Wanted) (row : Row) → look m w ≡ Some row → fits w row ≡ true
   hit-fits w row h = answers-fits w row (hit_answers m w row h)
 
   module _ (row : Row) where
-    pub ste-hit : (s : ℕ) → look m (Ste s) ≡ Hit row → attributes.mem_attr_formed (new_mem_attr row) ≡ true
+    pub ste-hit : (s : ℕ) → look m (Ste s) ≡ Some row → attributes.mem_attr_formed (new_mem_attr row) ≡ true
     unfolding fits
     ste-hit s h =
         ste-mem-attr row (hit-formed (Ste s) row h) (hit-last (Ste s) row h)
         (left (eqb (kind row) ste) (eqb (stream row) s) (hit-fits (Ste s) row h))
 
-    pub stage1-hit : (v s a : ℕ) → look m (Stage1 v s a) ≡ Hit row → StageHit row a
+    pub stage1-hit : (v s a : ℕ) → look m (Stage1 v s a) ≡ Some row → StageHit row a
     unfolding fits
     stage1-hit v s a h =
         let w = Stage1 v s a in
@@ -74,7 +74,7 @@ module _ (m : List ℕ) (n : ℕ) (ok : Accepts m n) where
         stage_hit row a stage1 (hit-formed w row h) (hit-last w row h) (left k i (left (k && i) g (left (k && i && g) (covers row a) all))) refl refl
         (right (k && i && g) (covers row a) all)
 
-    pub stage2-hit : (v a : ℕ) → look m (Stage2 v a) ≡ Hit row → StageHit row a
+    pub stage2-hit : (v a : ℕ) → look m (Stage2 v a) ≡ Some row → StageHit row a
     unfolding fits
     stage2-hit v a h =
         let w = Stage2 v a in

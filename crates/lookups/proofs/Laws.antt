@@ -6,8 +6,7 @@ use mathlib.Core.List.{List}
 use mathlib.Core.Logic.{◌⊎◌, ⊎_elim}
 use Prim.Native.Nat.{ℕ, ◌<◌}
 use native.Mathlib.Omega.{arith}
-use Rattle.words.specs.declared.Found.{Found}
-use Rattle.words.specs.declared.Found.TheVariants.{At, Nothing}
+use Rattle.std.specs.Prelude.{None, Option, Some}
 use Rattle.words.proofs.Truth.{left, right, clash}
 use Rattle.words.proofs.Search.{Lowest, from_zero, found, lowest-same}
 use Rattle.rows.specs.declared.Row.{Row}
@@ -15,18 +14,17 @@ use Rattle.rows.specs.Rows.{is_last, is_unmarked, may_answer}
 use Rattle.rows.proofs.LastLevel.{answers-last, answers-unmarked}
 use Rattle.image.specs.Image.{rows_in, row_at}
 use Rattle.lookups.specs.declared.Wanted.{Wanted}
-use Rattle.lookups.specs.declared.Looked.TheVariants.{Hit}
 use Rattle.lookups.specs.Lookups.{fits, answers, answers_at, find, row_found, look}
 
 -- row i is the lowest that answers
 abbrev pub Answerer : List ℕ → Wanted → ℕ → Type 0
 Answerer m w i = Lowest (answers_at m w) (rows_in m) 0 i
 
-pub is_lowest : (m : List ℕ) (w : Wanted) (i : ℕ) → find m w ≡ At i → Answerer m w i
+pub is_lowest : (m : List ℕ) (w : Wanted) (i : ℕ) → find m w ≡ Some i → Answerer m w i
 unfolding find
 is_lowest m w i e = found (answers_at m w) (rows_in m) 0 i (omega arith) (sym (from_zero (answers_at m w) (rows_in m)) ∙ e)
 
-pub found_below : (m : List ℕ) (w : Wanted) (i : ℕ) → find m w ≡ At i → i < rows_in m
+pub found_below : (m : List ℕ) (w : Wanted) (i : ℕ) → find m w ≡ Some i → i < rows_in m
 found_below m w i e = (is_lowest m w i e).below
 
 -- it is last-level and unmarked, and fits
@@ -51,15 +49,15 @@ pub record HitAt (m : List ℕ) (w : Wanted) (row : Row) : Type 0 where
   pub row_is : row_at m place ≡ row
 
 module _ (m : List ℕ) (w : Wanted) where
-  pub hit_at : (row : Row) → look m w ≡ Hit row → HitAt m w row
+  pub hit_at : (row : Row) → look m w ≡ Some row → HitAt m w row
   unfolding look
   hit_at row h = by_find (find m w) refl h
     where
-      by_find : (f : Found) → find m w ≡ f → row_found m f ≡ Hit row → HitAt m w row
-      by_find (At i) e h = record { place = i; lowest_is = is_lowest m w i e; row_is = cc }
-      by_find Nothing e h = let z : ◌≡◌ {A = ℕ} 0 1 = cc in absurd (omega arith)
+      by_find : (f : Option ℕ) → find m w ≡ f → row_found m f ≡ Some row → HitAt m w row
+      by_find (Some i) e h = record { place = i; lowest_is = is_lowest m w i e; row_is = cc }
+      by_find None e h = let z : ◌≡◌ {A = ℕ} 0 1 = cc in absurd (omega arith)
 
-  pub hit_answers : (row : Row) → look m w ≡ Hit row → answers w row ≡ true
+  pub hit_answers : (row : Row) → look m w ≡ Some row → answers w row ≡ true
   unfolding answers_at
   hit_answers row h = let at = hit_at row h in rw (← at.row_is) at.lowest_is.passes
 
@@ -84,8 +82,8 @@ module _ (m m' : List ℕ) (w : Wanted) (rows : rows_in m ≡ rows_in m') (alike
       answered : (i : ℕ) → Answerer m' w i → may_answer (row_at m' i) ≡ true
       answered i a = only_answerers w (row_at m' i) a.passes
 
-      by_find : (f : Found) → find m' w ≡ f → row_found m f ≡ row_found m' f
-      by_find (At i) e =
+      by_find : (f : Option ℕ) → find m' w ≡ f → row_found m f ≡ row_found m' f
+      by_find (Some i) e =
           let low = is_lowest m' w i e in
-          ⊎_elim (λ s. ap Hit s) (λ b. clash (answered i low) b.1) (alike i low.below)
-      by_find Nothing e = refl
+          ⊎_elim (λ s. ap Some s) (λ b. clash (answered i low) b.1) (alike i low.below)
+      by_find None e = refl

@@ -1,9 +1,7 @@
 -- Document 01, A transaction, and document 02, T-05: the row that answers a step.
 -- Assumes nothing.
-use Rattle.std.specs.Prelude.{ℕ, ◌+◌, Bool, ◌&&◌, ◌||◌, List, eqb}
+use Rattle.std.specs.Prelude.{ℕ, ◌+◌, Bool, ◌&&◌, ◌||◌, List, eqb, None, Option, Some}
 use Rattle.words.specs.Search.{lowest}
-use Rattle.words.specs.declared.Found.{Found}
-use Rattle.words.specs.declared.Found.TheVariants.{At, Nothing}
 use Rattle.rows.specs.declared.Row.{Row}
 use Rattle.rows.specs.Rows as rows
 use Rattle.image.specs.Image.{rows_in, row_at}
@@ -12,8 +10,6 @@ use Rattle.screens.specs.declared.Screen.{Screen}
 use Rattle.screens.specs.declared.Screen.TheVariants.{Named, Covering}
 use Rattle.lookups.specs.declared.Wanted.{Wanted}
 use Rattle.lookups.specs.declared.Wanted.TheVariants.{Ste, Cd, Stage1, Stage2}
-use Rattle.lookups.specs.declared.Looked.{Looked}
-use Rattle.lookups.specs.declared.Looked.TheVariants.{Hit, NoRow}
 
 -- a row of the kind and the identifiers that a step wants; a stage 1 row has the ASID or is global, and a stage row covers the address
 unfoldable pub fits : Wanted → Row → Bool
@@ -43,12 +39,12 @@ screen_of (Stage1 vmid asid address) = Covering answer_vmid_mask (of_answer rows
 screen_of (Stage2 vmid address) = Covering answer_vmid_mask (of_answer rows.stage2 + of_vmid vmid) address
 
 -- the place of the lowest-numbered such row
-unfoldable pub find : List ℕ → Wanted → Found
+unfoldable pub find : List ℕ → Wanted → Option ℕ
 find m w = lowest (answers_at m w) (rows_in m) 0
 
-abbrev pub row_found : List ℕ → Found → Looked
-row_found m (At i) = Hit (row_at m i)
-row_found m Nothing = NoRow
+abbrev pub row_found : List ℕ → Option ℕ → Option Row
+row_found m (Some i) = Some (row_at m i)
+row_found m None = None
 
-unfoldable pub look : List ℕ → Wanted → Looked
+unfoldable pub look : List ℕ → Wanted → Option Row
 look m w = row_found m (find m w)

@@ -7,7 +7,6 @@ ghost use Rattle.lookups.specs.Lookups.{fits, answers, answers_at, screen_of, fi
 
 use rows::{Row, kinds};
 use screens::{Screen, answering, places};
-use words::Found;
 
 // What a step looks for: the STE row of a stream, the CD row of a stream and a substream, the stage 1 row of a VMID,
 // an ASID and an address, the stage 2 row of a VMID and an address.
@@ -17,13 +16,6 @@ pub enum Wanted {
     Cd(u64, u64),
     Stage1(u64, u64, u64),
     Stage2(u64, u64),
-}
-
-// What a step finds: the row that answers it, or none.
-#[derive(Clone, Copy)]
-pub enum Looked {
-    Hit(Row),
-    NoRow,
 }
 
 fn fits(w: Wanted, row: Row) -> bool
@@ -86,7 +78,7 @@ fn screen_of(w: Wanted) -> Screen
 }
 
 // The place of the lowest row that answers. Only rows that the screen lets through are asked.
-fn find(kept: &[u64], w: Wanted) -> Found
+fn find(kept: &[u64], w: Wanted) -> Option<usize>
     requires { 4 * rows_in kept.now + 1 ≤ length kept.now }
     ensures { result ≡ find kept.now w }
 {
@@ -94,24 +86,24 @@ fn find(kept: &[u64], w: Wanted) -> Found
     let s = screen_of(w);
     let mut i = 0;
     while i < rows {
-        let Found::At(row) = screens::next(kept, s, i, rows) else {
-            return Found::Nothing;
+        let Some(row) = screens::next(kept, s, i, rows) else {
+            return None;
         };
         if answers_at(kept, w, row) {
-            return Found::At(row);
+            return Some(row);
         }
         i = row + 1;
     }
-    Found::Nothing
+    None
 }
 
 // The lowest row that answers.
-pub fn look(kept: &[u64], w: Wanted) -> Looked
+pub fn look(kept: &[u64], w: Wanted) -> Option<Row>
     requires { 4 * rows_in kept.now + 1 ≤ length kept.now }
     ensures { result ≡ look kept.now w }
 {
     match find(kept, w) {
-        Found::At(i) => Looked::Hit(image::row_at(kept, i)),
-        Found::Nothing => Looked::NoRow,
+        Some(i) => Some(image::row_at(kept, i)),
+        None => None,
     }
 }

@@ -2,7 +2,6 @@
 use crate::scene;
 use crate::scene::bit;
 use commands::{Command, Decoded, Reason};
-use image::Checked;
 use rows::Row;
 use std::io;
 use std::io::Write;
@@ -58,12 +57,12 @@ fn mapping(out: &mut impl Write, r: Row) -> io::Result<()> {
 
 fn checked(out: &mut impl Write, c: Checked) -> io::Result<()> {
     match c {
-        Checked::Accepted(n) => told(
+        Ok(n) => told(
             &mut *out,
             b"the unit accepts this memory, rows #\n",
             [n as u64, 0, 0, 0, 0, 0, 0, 0],
         ),
-        Checked::Refused(_) => say(&mut *out, b"the unit refuses this memory\n"),
+        Err(_) => say(&mut *out, b"the unit refuses this memory\n"),
     }
 }
 

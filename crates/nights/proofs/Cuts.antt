@@ -6,8 +6,8 @@ use Prim.Native.Nat.{ℕ, ◌+◌}
 use Rattle.words.specs.Outcomes.{Outcome}
 use Rattle.commands.specs.declared.Features.{Features}
 use Rattle.runs.specs.declared.Ran.{Ran}
-use Rattle.runs.specs.declared.RunAnswer.{RunAnswer}
-use Rattle.runs.specs.declared.RunAnswer.TheVariants.{Done}
+use Rattle.std.specs.Prelude.{Ok, Result}
+use Rattle.runs.specs.declared.RunRefusal.{RunRefusal}
 use Rattle.nights.specs.Night.{Night, uncut, performed}
 use Rattle.nights.specs.Cuts.{Finishes, again, Goes, OnTheWay, CutAt}
 use Rattle.nights.specs.Calls.{World, Call, Run, Answer, EndsCut, tried, unit, Accepted}
@@ -54,11 +54,11 @@ module _ (c : Call) (w : World) (a : Accepted w) where
   finished-accepted o tries = finished-one unit Accepted retries c a tries
 
 -- a run's four counts: those of a cut try and of all after it add up to those of the run without cuts, whose end is the last's
-pub counts_add_up : (f : Features) (queue : List ℕ) (w : World) → Accepted w → (k : ℕ) (o : Outcome World RunAnswer) (ran ran' : Ran)
+pub counts_add_up : (f : Features) (queue : List ℕ) (w : World) → Accepted w → (k : ℕ) (o : Outcome World (Result Ran RunRefusal)) (ran ran' : Ran)
     → EndsCut (Run f queue) (tried (Run f queue) k w).answer → Finishes unit (Run f queue) (tried (Run f queue) k w).memory o
-    → (tried (Run f queue) k w).answer ≡ Done ran → o.answer ≡ Done ran'
+    → (tried (Run f queue) k w).answer ≡ Ok ran → o.answer ≡ Ok ran'
     → (uncut unit (Run f queue) w).answer
-    ≡ Done (record {
+    ≡ Ok (record {
       end = ran'.end;
       consumed = ran.consumed + ran'.consumed;
       stores = ran.stores + ran'.stores;
@@ -66,5 +66,5 @@ pub counts_add_up : (f : Features) (queue : List ℕ) (w : World) → Accepted w
       syncs = ran.syncs + ran'.syncs;
     })
 counts_add_up f queue w a k o ran ran' cut tries is is' =
-    sym (ap (λ (x : Outcome World RunAnswer). x.answer) (call_as_uncut unit Accepted retries (Run f queue) a (again k cut tries)))
+    sym (ap (λ (x : Outcome World (Result Ran RunRefusal)). x.answer) (call_as_uncut unit Accepted retries (Run f queue) a (again k cut tries)))
     ∙ rw (is, is')

@@ -18,20 +18,19 @@ use Rattle.memory.specs.Memory.{Memory, control_of, rows_in, used_rows}
 use Rattle.memory.proofs.Laws as memory
 use Rattle.fills.specs.declared.FillEnd.TheVariants.{Filled, Cut as Fill-as-Cut}
 use Rattle.fills.specs.declared.FillRefusal.{FillRefusal}
-use Rattle.fills.specs.declared.FillAnswer.{FillAnswer}
-use Rattle.fills.specs.declared.FillAnswer.TheVariants.{Refused as NotFilled}
+use Rattle.std.specs.Prelude.{Err, Result}
+use Rattle.fills.specs.declared.Filling.{Filling}
+use Rattle.runs.specs.declared.Ran.{Ran}
+use Rattle.runs.specs.declared.RunRefusal.{RunRefusal}
 use Rattle.fills.specs.Fills.{fill}
 use Rattle.fills.proofs.Laws as fills
 use Rattle.region_fills.specs.declared.FillRefusal.{FillRefusal as TableFillRefusal}
-use Rattle.region_fills.specs.declared.FillAnswer.{FillAnswer as TableFillAnswer}
-use Rattle.region_fills.specs.declared.FillAnswer.TheVariants.{Refused as NotTableFilled}
 use Rattle.region_fills.specs.Fills.{fill as table_fill}
 use Rattle.region_fills.proofs.Laws as region-fills
 use Rattle.due.specs.Due.{What, Remove, Consume, Raise}
 use Rattle.runs.specs.declared.End.{End}
 use Rattle.runs.specs.declared.End.TheVariants.{Off, Held, Empty, Raised, Cut as Run-as-Cut}
 use Rattle.runs.specs.declared.RunRefusal.TheVariants.{BadQueue}
-use Rattle.runs.specs.declared.RunAnswer.{RunAnswer}
 use Rattle.runs.specs.Running.{Out, Next, stores, next, run_by, due_in, run}
 use Rattle.runs.specs.Call.{queue_good, refused, done, call}
 use Rattle.runs.proofs.Calling.{goes_through}
@@ -53,12 +52,12 @@ filled_uncut : Filled ≡ Fill-as-Cut → ⊥
 filled_uncut e = let z : ◌≡◌ {A = ℕ} 0 1 = cc in omega arith
 
 -- a fill that is not refused: four, and one of the second table: two
-pub fill_needs_four : (w : World) (row : ℕ) (words : Row) (j : ℕ) → ((why : FillRefusal) → (fill w.kept row words j).answer ≡ NotFilled why → ⊥)
+pub fill_needs_four : (w : World) (row : ℕ) (words : Row) (j : ℕ) → ((why : FillRefusal) → (fill w.kept row words j).answer ≡ Err why → ⊥)
     → Needs unit 4 (Fill row words) w
 fill_needs_four w row words j goes = by_way (fills.which-way w.kept row words)
   where
     by_way : fills.Goes w.kept row words → Needs unit 4 (Fill row words) w
-    by_way (fills.stops why e) = absurd (goes why (ap (λ (o : Outcome (List ℕ) FillAnswer). o.answer) (e j)))
+    by_way (fills.stops why e) = absurd (goes why (ap (λ (o : Outcome (List ℕ) (Result Filling FillRefusal)). o.answer) (e j)))
     by_way (fills.stores n c) =
         record {
           cut_below = λ k h. rw (fills.not_enough w.kept n row words c k h) refl;
@@ -66,11 +65,11 @@ fill_needs_four w row words j goes = by_way (fills.which-way w.kept row words)
         }
 
 pub table_fill_needs_two : (w : World) (row : ℕ) (words : Region) (j : ℕ)
-    → ((why : TableFillRefusal) → (table_fill w.kept w.table row words j).answer ≡ NotTableFilled why → ⊥) → Needs unit 2 (TableFill row words) w
+    → ((why : TableFillRefusal) → (table_fill w.kept w.table row words j).answer ≡ Err why → ⊥) → Needs unit 2 (TableFill row words) w
 table_fill_needs_two w row words j goes = by_way (region-fills.which-way w.kept w.table row words)
   where
     by_way : region-fills.Goes w.kept w.table row words → Needs unit 2 (TableFill row words) w
-    by_way (region-fills.stops why e) = absurd (goes why (ap (λ (o : Outcome (List ℕ) TableFillAnswer). o.answer) (e j)))
+    by_way (region-fills.stops why e) = absurd (goes why (ap (λ (o : Outcome (List ℕ) (Result Filling TableFillRefusal)). o.answer) (e j)))
     by_way (region-fills.stores n c) =
         record {
           cut_below = λ k h. rw (region-fills.not_enough w.kept w.table n row words c k h) refl;
@@ -78,24 +77,24 @@ table_fill_needs_two w row words j goes = by_way (region-fills.which-way w.kept 
         }
 
 -- a refused one nothing
-pub refused_fill_needs_none : (w : World) (row : ℕ) (words : Row) (j : ℕ) (why : FillRefusal) → (fill w.kept row words j).answer ≡ NotFilled why
+pub refused_fill_needs_none : (w : World) (row : ℕ) (words : Row) (j : ℕ) (why : FillRefusal) → (fill w.kept row words j).answer ≡ Err why
     → Needs unit 0 (Fill row words) w
 refused_fill_needs_none w row words j why r = by_way (fills.which-way w.kept row words)
   where
     by_way : fills.Goes w.kept row words → Needs unit 0 (Fill row words) w
     by_way (fills.stops why' e) = record { cut_below = λ k h. absurd (omega arith); done-from = λ k h cut. rw (e k) at cut }
     by_way (fills.stores n c) =
-        let z : ◌≡◌ {A = ℕ} 0 1 = cc (ap (λ (o : Outcome (List ℕ) FillAnswer). o.answer) (fills.carried w.kept n row words c j)) in
+        let z : ◌≡◌ {A = ℕ} 0 1 = cc (ap (λ (o : Outcome (List ℕ) (Result Filling FillRefusal)). o.answer) (fills.carried w.kept n row words c j)) in
         absurd (omega arith)
 
 pub refused_table_fill_needs_none : (w : World) (row : ℕ) (words : Region) (j : ℕ) (why : TableFillRefusal)
-    → (table_fill w.kept w.table row words j).answer ≡ NotTableFilled why → Needs unit 0 (TableFill row words) w
+    → (table_fill w.kept w.table row words j).answer ≡ Err why → Needs unit 0 (TableFill row words) w
 refused_table_fill_needs_none w row words j why r = by_way (region-fills.which-way w.kept w.table row words)
   where
     by_way : region-fills.Goes w.kept w.table row words → Needs unit 0 (TableFill row words) w
     by_way (region-fills.stops why' e) = record { cut_below = λ k h. absurd (omega arith); done-from = λ k h cut. rw (e k) at cut }
     by_way (region-fills.stores n c) =
-        let z : ◌≡◌ {A = ℕ} 0 1 = cc (ap (λ (o : Outcome (List ℕ) TableFillAnswer). o.answer) (region-fills.carried w.kept w.table n row words c j)) in
+        let z : ◌≡◌ {A = ℕ} 0 1 = cc (ap (λ (o : Outcome (List ℕ) (Result Filling TableFillRefusal)). o.answer) (region-fills.carried w.kept w.table n row words c j)) in
         absurd (omega arith)
 
 -- an event write: five; on a full ring one if the overflow flag has to flip, and else none
@@ -238,7 +237,7 @@ module _ (f : Features) (queue : List ℕ) where
   cut-together k [] w a (one-try cut rest) = rw (add-zero k) (cut-run (a.rows + a.parts) k (memory_of w) (memory-of w a) cut).is_cut
   cut-together k (j ∷ ks) w a (one-try cut rest) =
       let r = cut-run (a.rows + a.parts) k (memory_of w) (memory-of w a) cut in
-      let left : (call f queue k (memory_of w)).memory ≡ (run f queue k (memory_of w)).memory = ap (λ (o : Outcome Memory RunAnswer). o.memory) r.is-run in
+      let left : (call f queue k (memory_of w)).memory ≡ (run f queue k (memory_of w)).memory = ap (λ (o : Outcome Memory (Result Ran RunRefusal)). o.memory) r.is-run in
       let later = cut-together j ks (tried (Run f queue) k w).memory ((retries (Run f queue)).keeps k w a) rest in
       ap (λ (o : Out Memory). o.ran.end) (resume (due_in f queue) (j + total ks) k (memory_of w) r.is_cut)
       ∙ ap (λ (m : Memory). (run f queue (j + total ks) m).ran.end) (sym left) ∙ later

@@ -19,21 +19,24 @@ use Rattle.due.specs.declared.Raising.{Raising}
 use Rattle.regions.specs.declared.Region.{Region}
 use Rattle.memory.specs.Memory.{Memory}
 use Rattle.memory.proofs.Laws as memory
-use Rattle.control_calls.specs.declared.AcknowledgeAnswer.{AcknowledgeAnswer}
-use Rattle.control_calls.specs.declared.ClearAnswer.{ClearAnswer}
+use Rattle.std.specs.Prelude.{Err, Ok, Result, ⊤}
+use Rattle.control_calls.specs.declared.AcknowledgeRefusal.{AcknowledgeRefusal}
+use Rattle.control_calls.specs.declared.ClearRefusal.{ClearRefusal}
+use Rattle.runs.specs.declared.Ran.{Ran}
+use Rattle.events.specs.declared.Refusal.{Refusal}
+use Rattle.event_calls.specs.declared.Writing.{Writing}
+use Rattle.event_calls.specs.declared.ReadRefusal.{ReadRefusal}
+use Rattle.event_calls.specs.declared.AcknowledgeRefusal.{AcknowledgeRefusal as EventCallsAcknowledgeRefusal}
 use Rattle.control_calls.proofs.Laws as control-calls
 use Rattle.fills.specs.declared.FillEnd.TheVariants.{Filled, Cut as Fill-as-Cut}
 use Rattle.fills.specs.declared.FillRefusal.TheVariants.{RowInUse}
-use Rattle.fills.specs.declared.FillAnswer.TheVariants.{Refused as NotFilled}
 use Rattle.fills.specs.Fills.{fill}
 use Rattle.fills.proofs.Laws as fills
 use Rattle.region_fills.specs.declared.FillRefusal.TheVariants.{RowInUse as TableRowInUse}
-use Rattle.region_fills.specs.declared.FillAnswer.TheVariants.{Refused as NotTableFilled}
 use Rattle.region_fills.specs.Fills.{fill as table_fill}
 use Rattle.region_fills.proofs.Laws as region-fills
 use Rattle.runs.specs.declared.End.{End}
 use Rattle.runs.specs.declared.End.TheVariants.{Off, Held, Empty, Raised}
-use Rattle.runs.specs.declared.RunAnswer.{RunAnswer}
 use Rattle.runs.specs.declared.RunRefusal.{RunRefusal}
 use Rattle.runs.specs.declared.RunRefusal.TheVariants.{BadQueue}
 use Rattle.runs.specs.Running.{rested, end_of, due_in, run}
@@ -42,8 +45,6 @@ use Rattle.runs.proofs.Calling.{goes_through, Answered, no, yes, answered}
 use Rattle.runs.proofs.Turns.{run-rests}
 use Rattle.transactions.specs.declared.Transaction.{Transaction}
 use Rattle.events.specs.declared.Record.{Record}
-use Rattle.events.specs.declared.Checked.{Checked}
-use Rattle.events.specs.declared.Checked.TheVariants.{Accepted as events·Accepted, Refused as events·Refused}
 use Rattle.events.specs.Word.{rd_bits, wr_bits, log2size_bits, outstanding, is_empty, is_full, distance, oldest}
 use Rattle.events.specs.Stores.{flipped}
 use Rattle.events.specs.Events.{index_of, record_of, record_at, waiting, check}
@@ -51,13 +52,7 @@ use Rattle.events.proofs.Checks as recorders
 use Rattle.events.proofs.Index.{flipped-keeps}
 use Rattle.events.proofs.Waiting.{stored-word}
 use Rattle.event_calls.specs.declared.WriteEnd.TheVariants.{Stored, Dropped, Cut}
-use Rattle.event_calls.specs.declared.WriteAnswer.{WriteAnswer}
-use Rattle.event_calls.specs.declared.WriteAnswer.TheVariants.{Refused as NotWritten, Done as DidWrite}
 use Rattle.event_calls.specs.declared.ReadRefusal.TheVariants.{Empty as NoneWaits}
-use Rattle.event_calls.specs.declared.ReadAnswer.{ReadAnswer}
-use Rattle.event_calls.specs.declared.ReadAnswer.TheVariants.{Oldest}
-use Rattle.event_calls.specs.declared.AcknowledgeAnswer.{AcknowledgeAnswer as EventAcknowledgeAnswer}
-use Rattle.event_calls.specs.declared.AcknowledgeAnswer.TheVariants.{Acknowledged as EventAcknowledged}
 use Rattle.event_calls.specs.Calls.{write, read}
 use Rattle.event_calls.specs.Told.{Ends}
 use Rattle.event_calls.proofs.Laws.{Wrote, refuses, drops, flips, flips_not, stores, stores-part, wrote, write-accepted, full_told, full_tells, room_whole}
@@ -93,12 +88,12 @@ module _ (w : World) (a : Accepted w) (k : ℕ) where
   pub acknowledge-again : Refuses 6 Acknowledge (tried Acknowledge k w).memory
   acknowledge-again =
       let e = control-calls.acknowledge-again w.kept a.rows (image-of w a) in
-      record { told = λ j. rw e; stays = λ j. ap (λ (o : Outcome (List ℕ) AcknowledgeAnswer). (in_kept w o).memory) e }
+      record { told = λ j. rw e; stays = λ j. ap (λ (o : Outcome (List ℕ) (Result ⊤ AcknowledgeRefusal)). (in_kept w o).memory) e }
 
   pub clear-again : Refuses 12 ClearPending (tried ClearPending k w).memory
   clear-again =
       let e = control-calls.clear-again w.kept a.rows (image-of w a) in
-      record { told = λ j. rw e; stays = λ j. ap (λ (o : Outcome (List ℕ) ClearAnswer). (in_kept w o).memory) e }
+      record { told = λ j. rw e; stays = λ j. ap (λ (o : Outcome (List ℕ) (Result ⊤ ClearRefusal)). (in_kept w o).memory) e }
 
 -- a fill gets 8, one of the second table too: no word changes
 module _ (w : World) (k row : ℕ) where
@@ -114,7 +109,7 @@ module _ (w : World) (k row : ℕ) where
         where
           whole : 4 ≤ k → Refuses 8 (Fill row words) (tried (Fill row words) k w).memory
           whole h =
-              let e : (j : ℕ) → fill (fill w.kept row words k).memory row words j ≡ with (NotFilled RowInUse) (fill w.kept row words k).memory =
+              let e : (j : ℕ) → fill (fill w.kept row words k).memory row words j ≡ with (Err RowInUse) (fill w.kept row words k).memory =
               λ j. fills.finished-refuses w.kept n row words c k j words h in
               record { told = λ j. rw (e j); stays = λ j. ap (λ (o : Outcome (List ℕ) (Answer (Fill row words))). (in_kept w o).memory) (e j) }
 
@@ -130,7 +125,7 @@ module _ (w : World) (k row : ℕ) where
           whole : 2 ≤ k → Refuses 8 (TableFill row words) (tried (TableFill row words) k w).memory
           whole h =
               let t = (table_fill w.kept w.table row words k).memory in
-              let e : (j : ℕ) → table_fill w.kept t row words j ≡ with (NotTableFilled TableRowInUse) t =
+              let e : (j : ℕ) → table_fill w.kept t row words j ≡ with (Err TableRowInUse) t =
               λ j. region-fills.finished-refuses w.kept w.table n row words c k j words h in
               record { told = λ j. rw (e j); stays = λ j. ap (λ (o : Outcome (List ℕ) (Answer (TableFill row words))). (in_table w o).memory) (e j) }
 
@@ -162,8 +157,8 @@ module _ (w : World) (a : Accepted w) (k : ℕ) (f : Features) (queue : List ℕ
             let ended : (run f queue k m).ran.end ≡ end = rw is at ends in
             let e : (j : ℕ) → call f queue j (call f queue k m).memory ≡ with (idle still) (call f queue k m).memory = λ j. rw is (by-run q ended j) in
             record {
-              told = λ j. ap (λ (o : Outcome Memory RunAnswer). o.answer) (e j);
-              stays = λ j. ap (λ (o : Outcome Memory RunAnswer). (in_memory w o).memory) (e j);
+              told = λ j. ap (λ (o : Outcome Memory (Result Ran RunRefusal)). o.answer) (e j);
+              stays = λ j. ap (λ (o : Outcome Memory (Result Ran RunRefusal)). (in_memory w o).memory) (e j);
             }
 
   pub raised-again : (told : Raising) → RunEnds (Raised told) (tried (Run f queue) k w).answer → Same (Run f queue) (idle Held) (tried (Run f queue) k w).memory
@@ -184,25 +179,25 @@ module _ (w : World) (a : Accepted w) (k : ℕ) (f : Features) (queue : List ℕ
   held-again ends = rest-again Rest-as-Held ends
 
 -- an event acknowledge gets 18: no word changes
-pub event_acknowledge_again : (w : World) (k : ℕ) → (tried EventAcknowledge k w).answer ≡ EventAcknowledged
+pub event_acknowledge_again : (w : World) (k : ℕ) → (tried EventAcknowledge k w).answer ≡ Ok tt
     → Refuses 18 EventAcknowledge (tried EventAcknowledge k w).memory
 event_acknowledge_again w k done =
     let e = one_store.acknowledge-again w.recorder done in
-    record { told = λ j. rw e; stays = λ j. ap (λ (o : Outcome (List ℕ) EventAcknowledgeAnswer). (in_recorder w o).memory) e }
+    record { told = λ j. rw e; stays = λ j. ap (λ (o : Outcome (List ℕ) (Result ⊤ EventCallsAcknowledgeRefusal)). (in_recorder w o).memory) e }
 
 -- the first of those that wait is read
-reads_first : (m : List ℕ) (n : ℕ) → recorders.Accepts m n → (r : Record) (rest : List Record) → waiting m ≡ r ∷ rest → (read m).answer ≡ Oldest r
+reads_first : (m : List ℕ) (n : ℕ) → recorders.Accepts m n → (r : Record) (rest : List Record) → waiting m ≡ r ∷ rest → (read m).answer ≡ Ok r
 reads_first m n a r rest some = by_test (is_empty (index_of m)) refl
   where
-    by_test : (b : Bool) → is_empty (index_of m) ≡ b → (read m).answer ≡ Oldest r
+    by_test : (b : Bool) → is_empty (index_of m) ≡ b → (read m).answer ≡ Ok r
     by_test true t =
-        let none = none_read m n a (ap (λ (o : Outcome (List ℕ) ReadAnswer). o.answer) (read-empty m n (recorders.accepts m n a) t)) in
+        let none = none_read m n a (ap (λ (o : Outcome (List ℕ) (Result Record ReadRefusal)). o.answer) (read-empty m n (recorders.accepts m n a) t)) in
         let z : ◌≡◌ {A = ℕ} 0 1 = cc in absurd (omega arith)
     by_test false t =
-        let q = ap (λ (o : Outcome (List ℕ) ReadAnswer). o.answer) (read-stores m n (recorders.accepts m n a) t) in
+        let q = ap (λ (o : Outcome (List ℕ) (Result Record ReadRefusal)). o.answer) (read-stores m n (recorders.accepts m n a) t) in
         let first = one_store.read-oldest m (record_at m (oldest (index_of m))) q in
         let same : record_at m (oldest (index_of m)) ≡ r = cc in
-        q ∙ ap Oldest same
+        q ∙ ap Ok same
 
 -- an event read gives the next record, and then memory changes; or 17, and then it does not
 module _ (w : World) (a : Accepted w) (k : ℕ) where
@@ -222,7 +217,7 @@ module _ (w : World) (a : Accepted w) (k : ℕ) where
       }
 
   module _ (r : Record) (rest : List Record) (some : waiting read_left.recorder ≡ r ∷ rest) where
-    pub read-again-next : (j : ℕ) → (tried EventRead j read_left).answer ≡ Oldest r
+    pub read-again-next : (j : ℕ) → (tried EventRead j read_left).answer ≡ Ok r
     read-again-next j = reads_first read_left.recorder a.log2 left-accepted r rest some
 
     pub read-again-changes : (j : ℕ) → (tried EventRead j read_left).memory ≡ read_left → ⊥
@@ -268,14 +263,14 @@ module _ (w : World) (a : Accepted w) (k : ℕ) (bytes : List ℕ) where
 
   -- the drop stores nothing if an overflow is outstanding already
   pub dropped-untold : is_full (index_of write-left.recorder) ≡ true → outstanding (index_of write-left.recorder) ≡ true
-      → Same (EventWrite bytes) (DidWrite (record { end = Dropped; stores = 0 })) write-left
+      → Same (EventWrite bytes) (Ok (record { end = Dropped; stores = 0 })) write-left
   dropped-untold full t =
       let m' = write-left.recorder in
-      let e : (j : ℕ) → write m' bytes j ≡ with (DidWrite (record { end = Dropped; stores = 0 })) m' =
+      let e : (j : ℕ) → write m' bytes j ≡ with (Ok (record { end = Dropped; stores = 0 })) m' =
       λ j. full_told m' bytes j a.log2 write-left-accepted full t in
       record {
-        told = λ j. ap (λ (o : Outcome (List ℕ) WriteAnswer). o.answer) (e j);
-        stays = λ j. ap (λ (o : Outcome (List ℕ) WriteAnswer). (in_recorder w o).memory) (e j);
+        told = λ j. ap (λ (o : Outcome (List ℕ) (Result Writing Refusal)). o.answer) (e j);
+        stays = λ j. ap (λ (o : Outcome (List ℕ) (Result Writing Refusal)). (in_recorder w o).memory) (e j);
       }
 
   -- else the index word is stored, with OVERFLOW turned
@@ -295,7 +290,7 @@ module _ (w : World) (a : Accepted w) (k : ℕ) (bytes : List ℕ) where
       by_case (stores n b room h e) = let q : Stored ≡ Dropped = rw e at end in let z : ◌≡◌ {A = ℕ} 0 1 = cc in absurd (omega arith)
       by_case (stores-part n b room h e) = let q : Cut ≡ Dropped = rw e at end in let z : ◌≡◌ {A = ℕ} 0 1 = cc in absurd (omega arith)
 
-  pub dropped-again : Ends Dropped (tried (EventWrite bytes) k w).answer → Same (EventWrite bytes) (DidWrite (record { end = Dropped; stores = 0 })) write-left
+  pub dropped-again : Ends Dropped (tried (EventWrite bytes) k w).answer → Same (EventWrite bytes) (Ok (record { end = Dropped; stores = 0 })) write-left
   dropped-again end = dropped-untold (still_full end) (dropped-outstanding w.recorder bytes k end)
 
 -- a refused call stored nothing, and is refused so again
@@ -325,7 +320,7 @@ module _ (w : World) (k : ℕ) where
     where
       stops : (why : RunRefusal) → ((j : ℕ) → call f queue j (memory_of w) ≡ refused why (memory_of w)) → StillRefused (Run f queue)
       stops why e =
-          record { nothing = ap (λ (o : Outcome Memory RunAnswer). (in_memory w o).memory) (e k); again = λ j. ap (in_memory w) (e j ∙ sym (e k)) }
+          record { nothing = ap (λ (o : Outcome Memory (Result Ran RunRefusal)). (in_memory w o).memory) (e k); again = λ j. ap (in_memory w) (e j ∙ sym (e k)) }
 
       by_queue : (n : ℕ) → memory.Accepts (memory_of w) n → (b : Bool) → queue_good queue (memory_of w) ≡ b → StillRefused (Run f queue)
       by_queue n a false q = stops BadQueue (λ j. goes_through f queue j (memory_of w) n a ∙ rw q)
@@ -338,11 +333,11 @@ module _ (w : World) (k : ℕ) where
   write-refused : (bytes : List ℕ) → WasRefused (EventWrite bytes) (tried (EventWrite bytes) k w).answer → StillRefused (EventWrite bytes)
   write-refused bytes r = by_check (check w.recorder) refl
     where
-      by_check : (c : Checked) → check w.recorder ≡ c → StillRefused (EventWrite bytes)
-      by_check (events·Refused why) e =
-          let stops : (j : ℕ) → write w.recorder bytes j ≡ with (NotWritten why) w.recorder = λ j. event-cases.write-refused w.recorder bytes j why e in
-          record { nothing = ap (λ (o : Outcome (List ℕ) WriteAnswer). (in_recorder w o).memory) (stops k); again = λ j. ap (in_recorder w) (stops j ∙ sym (stops k)) }
-      by_check (events·Accepted n) e = absurd (r (rw (event-cases.write-due w.recorder bytes k n e) refl))
+      by_check : (c : Result ℕ Refusal) → check w.recorder ≡ c → StillRefused (EventWrite bytes)
+      by_check (Err why) e =
+          let stops : (j : ℕ) → write w.recorder bytes j ≡ with (Err why) w.recorder = λ j. event-cases.write-refused w.recorder bytes j why e in
+          record { nothing = ap (λ (o : Outcome (List ℕ) (Result Writing Refusal)). (in_recorder w o).memory) (stops k); again = λ j. ap (in_recorder w) (stops j ∙ sym (stops k)) }
+      by_check (Ok n) e = absurd (r (rw (event-cases.write-due w.recorder bytes k n e) refl))
 
   -- of a call of one store: by which way it went
   pub refused-again : (c : Call) → WasRefused c (tried c k w).answer → StillRefused c
@@ -359,7 +354,7 @@ module _ (w : World) (k : ℕ) where
   refused-again Acknowledge r = by_way (control-calls.acknowledge-way w.kept)
     where
       by_way : control-calls.AcknowledgeWay w.kept → StillRefused Acknowledge
-      by_way (control-calls.stops why e) = record { nothing = ap (λ (o : Outcome (List ℕ) AcknowledgeAnswer). (in_kept w o).memory) e; again = λ j. refl }
+      by_way (control-calls.stops why e) = record { nothing = ap (λ (o : Outcome (List ℕ) (Result ⊤ AcknowledgeRefusal)). (in_kept w o).memory) e; again = λ j. refl }
       by_way (control-calls.stores n a t e) = absurd (r (rw e refl))
   refused-again (Fill row words) r = fill-refused row words r
   refused-again (Run f queue) r = run-refused f queue r
@@ -367,17 +362,17 @@ module _ (w : World) (k : ℕ) where
   refused-again ClearPending r = by_way (control-calls.clear-way w.kept)
     where
       by_way : control-calls.ClearWay w.kept → StillRefused ClearPending
-      by_way (control-calls.stops why e) = record { nothing = ap (λ (o : Outcome (List ℕ) ClearAnswer). (in_kept w o).memory) e; again = λ j. refl }
+      by_way (control-calls.stops why e) = record { nothing = ap (λ (o : Outcome (List ℕ) (Result ⊤ ClearRefusal)). (in_kept w o).memory) e; again = λ j. refl }
       by_way (control-calls.stores n a t e) = absurd (r (rw e refl))
   refused-again (EventWrite bytes) r = write-refused bytes r
   refused-again EventRead r = by_way (one_store.read-way w.recorder)
     where
       by_way : one_store.ReadWay w.recorder → StillRefused EventRead
-      by_way (one_store.stops why e) = record { nothing = ap (λ (o : Outcome (List ℕ) ReadAnswer). (in_recorder w o).memory) e; again = λ j. refl }
+      by_way (one_store.stops why e) = record { nothing = ap (λ (o : Outcome (List ℕ) (Result Record ReadRefusal)). (in_recorder w o).memory) e; again = λ j. refl }
       by_way (one_store.stores n a t e) = absurd (r (rw e refl))
   refused-again EventAcknowledge r = by_way (one_store.acknowledge-way w.recorder)
     where
       by_way : one_store.AcknowledgeWay w.recorder → StillRefused EventAcknowledge
-      by_way (one_store.stops why e) = record { nothing = ap (λ (o : Outcome (List ℕ) EventAcknowledgeAnswer). (in_recorder w o).memory) e; again = λ j. refl }
+      by_way (one_store.stops why e) = record { nothing = ap (λ (o : Outcome (List ℕ) (Result ⊤ EventCallsAcknowledgeRefusal)). (in_recorder w o).memory) e; again = λ j. refl }
       by_way (one_store.stores n a t e) = absurd (r (rw e refl))
   refused-again (TableFill row words) r = table-fill-refused row words r

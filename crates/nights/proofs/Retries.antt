@@ -23,8 +23,9 @@ use Rattle.region_fills.specs.Fills.{fill as table_fill}
 use Rattle.region_fills.specs.Cuts as region-cuts
 use Rattle.region_fills.proofs.Laws as region-fills
 use Rattle.region_fills.proofs.Cuts as region-as-uncut
-use Rattle.runs.specs.declared.RunAnswer.{RunAnswer}
-use Rattle.runs.specs.declared.RunAnswer.TheVariants.{Refused, Done}
+use Rattle.std.specs.Prelude.{Err, Ok, Result}
+use Rattle.runs.specs.declared.Ran.{Ran}
+use Rattle.runs.specs.declared.RunRefusal.{RunRefusal}
 use Rattle.runs.specs.declared.RunRefusal.TheVariants.{BadQueue}
 use Rattle.runs.specs.Running.{run}
 use Rattle.runs.specs.Call.{queue_good, refused, done, call}
@@ -155,10 +156,10 @@ module _ (bytes : List ℕ) where
       }
 
 -- a run with the used rows and the waiting commands
-and_cut : (a b : RunAnswer) → EndsCut (◌and◌ a b) → EndsCut b
-and_cut (Refused why) b cut = absurd cut
-and_cut (Done ran) (Refused why) cut = cut
-and_cut (Done ran) (Done ran') cut = cut
+and_cut : (a b : Result Ran RunRefusal) → EndsCut (◌and◌ a b) → EndsCut b
+and_cut (Err why) b cut = absurd cut
+and_cut (Ok ran) (Err why) cut = cut
+and_cut (Ok ran) (Ok ran') cut = cut
 
 module _ (f : Features) (queue : List ℕ) where
   run-enough : (w : World) → Accepted w → EndsCut (call f queue (ahead w) (memory_of w)).answer → ⊥

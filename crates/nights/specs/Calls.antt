@@ -1,38 +1,39 @@
 -- Document 02, T-14: the calls of a night, those of T-01, T-08 and T-11 with them, and the world that they are made on.
 -- Assumes nothing.
-use Rattle.std.specs.Prelude.{◌≡◌, Bool, true, false, List, ℕ, ◌+◌}
+use Rattle.std.specs.Prelude.{◌≡◌, Bool, true, false, List, ℕ, ◌+◌, Err, Ok, Result, ⊤}
 use Rattle.words.specs.Outcomes.{Outcome, with}
 use Rattle.control.specs.Control as control
 use Rattle.rows.specs.declared.Row.{Row}
 use Rattle.commands.specs.declared.Features.{Features}
-use Rattle.image.specs.declared.Checked.TheVariants.{Accepted as image·Accepted}
+use Rattle.control_calls.specs.declared.DoorbellRefusal.{DoorbellRefusal}
+use Rattle.control_calls.specs.declared.AcknowledgeRefusal.{AcknowledgeRefusal}
+use Rattle.control_calls.specs.declared.ClearRefusal.{ClearRefusal}
+use Rattle.image.specs.declared.Refusal.{Refusal}
+use Rattle.fills.specs.declared.Filling.{Filling}
+use Rattle.fills.specs.declared.FillRefusal.{FillRefusal}
+use Rattle.region_fills.specs.declared.FillRefusal.{FillRefusal as RegionFillsFillRefusal}
+use Rattle.runs.specs.declared.Ran.{Ran}
+use Rattle.runs.specs.declared.RunRefusal.{RunRefusal}
+use Rattle.transactions.specs.declared.Outcome.{Outcome}
+use Rattle.transactions.specs.declared.TransactionRefusal.{TransactionRefusal}
+use Rattle.event_calls.specs.declared.Writing.{Writing}
+use Rattle.events.specs.declared.Refusal.{Refusal as RecorderRefusal}
+use Rattle.events.specs.declared.Record.{Record}
+use Rattle.event_calls.specs.declared.ReadRefusal.{ReadRefusal}
+use Rattle.event_calls.specs.declared.AcknowledgeRefusal.{AcknowledgeRefusal as EventCallsAcknowledgeRefusal}
 use Rattle.image.specs.Image as image
 use Rattle.regions.specs.declared.Region.{Region}
-use Rattle.regions.specs.declared.Checked.TheVariants.{Accepted as regions·Accepted}
 use Rattle.regions.specs.Table as regions
-use Rattle.events.specs.declared.Checked.TheVariants.{Accepted as events·Accepted}
 use Rattle.events.specs.Events as events
 use Rattle.memory.specs.Memory.{Memory, both, control_of, rows_in, used_rows}
-use Rattle.control_calls.specs.declared.DoorbellAnswer.{DoorbellAnswer}
-use Rattle.control_calls.specs.declared.AcknowledgeAnswer.{AcknowledgeAnswer}
-use Rattle.control_calls.specs.declared.ClearAnswer.{ClearAnswer}
-use Rattle.control_calls.specs.declared.EnableAnswer.{EnableAnswer}
 use Rattle.control_calls.specs.Calls as control-calls
-use Rattle.fills.specs.declared.FillAnswer.{FillAnswer}
 use Rattle.fills.specs.Fills as fills
-use Rattle.region_fills.specs.declared.FillAnswer.{FillAnswer as TableFillAnswer}
 use Rattle.region_fills.specs.Fills as region-fills
 use Rattle.region_fills.specs.Cuts as region-cuts
-use Rattle.runs.specs.declared.RunAnswer.{RunAnswer}
-use Rattle.runs.specs.declared.RunAnswer.TheVariants.{Refused as NotRun, Done as DidRun}
 use Rattle.runs.specs.Call as runs
 use Rattle.transactions.specs.declared.Transaction.{Transaction}
-use Rattle.transactions.specs.declared.TransactionAnswer.{TransactionAnswer}
 use Rattle.transactions.specs.Call as transactions
 use Rattle.event_calls.specs.declared.WriteEnd.TheVariants.{Cut}
-use Rattle.event_calls.specs.declared.WriteAnswer.{WriteAnswer}
-use Rattle.event_calls.specs.declared.ReadAnswer.{ReadAnswer}
-use Rattle.event_calls.specs.declared.AcknowledgeAnswer.{AcknowledgeAnswer as EventAcknowledgeAnswer}
 use Rattle.event_calls.specs.Calls as event-calls
 use Rattle.event_calls.specs.Told.{Ends}
 use Rattle.promises.specs.Calls as promised
@@ -61,17 +62,17 @@ pub data Call : Type 0 where
 
 -- what each answers
 abbrev pub Answer : Call → Type 0
-Answer (Doorbell wr) = DoorbellAnswer
-Answer (Enable on) = EnableAnswer
-Answer Acknowledge = AcknowledgeAnswer
-Answer (Fill row words) = FillAnswer
-Answer (Run f queue) = RunAnswer
-Answer (Translate t) = TransactionAnswer
-Answer ClearPending = ClearAnswer
-Answer (EventWrite bytes) = WriteAnswer
-Answer EventRead = ReadAnswer
-Answer EventAcknowledge = EventAcknowledgeAnswer
-Answer (TableFill row words) = TableFillAnswer
+Answer (Doorbell wr) = Result ⊤ DoorbellRefusal
+Answer (Enable on) = Result ⊤ Refusal
+Answer Acknowledge = Result ⊤ AcknowledgeRefusal
+Answer (Fill row words) = Result Filling FillRefusal
+Answer (Run f queue) = Result Ran RunRefusal
+Answer (Translate t) = Result Outcome TransactionRefusal
+Answer ClearPending = Result ⊤ ClearRefusal
+Answer (EventWrite bytes) = Result Writing RecorderRefusal
+Answer EventRead = Result Record ReadRefusal
+Answer EventAcknowledge = Result ⊤ EventCallsAcknowledgeRefusal
+Answer (TableFill row words) = Result Filling RegionFillsFillRefusal
 
 -- a call on one part of the world: the others stay
 abbrev pub memory_of : World → Memory
@@ -146,9 +147,9 @@ joined EventAcknowledge first rest = rest
 joined (TableFill row words) first rest = rest
 
 -- the stores that a run made
-abbrev pub stores_of : RunAnswer → ℕ
-stores_of (NotRun why) = 0
-stores_of (DidRun ran) = ran.stores
+abbrev pub stores_of : Result Ran RunRefusal → ℕ
+stores_of (Err why) = 0
+stores_of (Ok ran) = ran.stores
 
 -- used rows of both tables, and waiting commands
 abbrev pub ahead : World → ℕ
@@ -174,8 +175,8 @@ unit = record { tried = tried; EndsCut = EndsCut; joined = joined; enough = enou
 -- accepted: the kept memory by refusals 1 to 3, the table by 13 and 14, the recorder by 15 and 16
 pub record Accepted (w : World) : Type 0 where
   pub rows : ℕ
-  pub kept : image.check w.kept ≡ image·Accepted rows
+  pub kept : image.check w.kept ≡ Ok rows
   pub parts : ℕ
-  pub table : regions.check w.table ≡ regions·Accepted parts
+  pub table : regions.check w.table ≡ Ok parts
   pub log2 : ℕ
-  pub recorder : events.check w.recorder ≡ events·Accepted log2
+  pub recorder : events.check w.recorder ≡ Ok log2

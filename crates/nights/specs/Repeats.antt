@@ -1,14 +1,13 @@
 -- Document 02, T-14: what repeating a finished call does.
 -- Assumes nothing.
-use Rattle.std.specs.Prelude.{◌≡◌, ℕ}
+use Rattle.std.specs.Prelude.{◌≡◌, ℕ, Err, Ok, Result}
 use Rattle.fills.specs.declared.FillEnd.TheVariants.{Filled}
-use Rattle.fills.specs.declared.FillAnswer.{FillAnswer}
-use Rattle.fills.specs.declared.FillAnswer.TheVariants.{Refused as NotFilled, Done as DidFill}
-use Rattle.region_fills.specs.declared.FillAnswer.{FillAnswer as TableFillAnswer}
-use Rattle.region_fills.specs.declared.FillAnswer.TheVariants.{Refused as NotTableFilled, Done as DidTableFill}
+use Rattle.fills.specs.declared.Filling.{Filling}
+use Rattle.fills.specs.declared.FillRefusal.{FillRefusal}
+use Rattle.region_fills.specs.declared.FillRefusal.{FillRefusal as RegionFillsFillRefusal}
+use Rattle.runs.specs.declared.Ran.{Ran}
+use Rattle.runs.specs.declared.RunRefusal.{RunRefusal}
 use Rattle.runs.specs.declared.End.{End}
-use Rattle.runs.specs.declared.RunAnswer.{RunAnswer}
-use Rattle.runs.specs.declared.RunAnswer.TheVariants.{Refused as NotRun, Done as DidRun}
 use Rattle.promises.specs.Numbers.{run_number, fill_number, table_fill_number, doorbell_number, acknowledge_number, clear_number, enable_number, translate_number}
 use Rattle.promises.specs.Recorder.{event_write_number, event_read_number, event_acknowledge_number}
 use Rattle.nights.specs.Calls.{World, Call, Doorbell, Enable, Acknowledge, Fill, Run, Translate, ClearPending, EventWrite, EventRead, EventAcknowledge, TableFill, Answer, tried}
@@ -38,21 +37,21 @@ pub record Same (c : Call) (answer : Answer c) (w : World) : Type 0 where
   pub stays : (k : ℕ) → (tried c k w).memory ≡ w
 
 -- carried out, and ended so
-abbrev pub EndsFilled : FillAnswer → Type 0
-EndsFilled (NotFilled why) = ⊥
-EndsFilled (DidFill filling) = filling.end ≡ Filled
+abbrev pub EndsFilled : Result Filling FillRefusal → Type 0
+EndsFilled (Err why) = ⊥
+EndsFilled (Ok filling) = filling.end ≡ Filled
 
-abbrev pub EndsTableFilled : TableFillAnswer → Type 0
-EndsTableFilled (NotTableFilled why) = ⊥
-EndsTableFilled (DidTableFill filling) = filling.end ≡ Filled
+abbrev pub EndsTableFilled : Result Filling RegionFillsFillRefusal → Type 0
+EndsTableFilled (Err why) = ⊥
+EndsTableFilled (Ok filling) = filling.end ≡ Filled
 
-abbrev pub RunEnds : End → RunAnswer → Type 0
-RunEnds end (NotRun why) = ⊥
-RunEnds end (DidRun ran) = ran.end ≡ end
+abbrev pub RunEnds : End → Result Ran RunRefusal → Type 0
+RunEnds end (Err why) = ⊥
+RunEnds end (Ok ran) = ran.end ≡ end
 
 -- a run that ended so and did nothing
-abbrev pub idle : End → RunAnswer
-idle end = DidRun (record { end = end; consumed = 0; stores = 0; removed = 0; syncs = 0 })
+abbrev pub idle : End → Result Ran RunRefusal
+idle end = Ok (record { end = end; consumed = 0; stores = 0; removed = 0; syncs = 0 })
 
 -- a call that was refused
 abbrev pub WasRefused : (c : Call) → Answer c → Type 0

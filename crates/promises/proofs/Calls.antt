@@ -20,7 +20,8 @@ use Rattle.due.specs.Due.{What, after_command}
 use Rattle.due.proofs.Consuming.{after-keeps}
 use Rattle.runs.specs.declared.RunRefusal.{RunRefusal}
 use Rattle.runs.specs.declared.RunRefusal.TheVariants.{BadQueue}
-use Rattle.runs.specs.declared.RunAnswer.{RunAnswer}
+use Rattle.std.specs.Prelude.{Result}
+use Rattle.runs.specs.declared.Ran.{Ran}
 use Rattle.runs.specs.Running.{stores, due_in, run}
 use Rattle.runs.specs.Call.{queue_good, refused, done, call}
 use Rattle.runs.proofs.Calling.{goes_through, Answered, no, yes, answered}
@@ -97,13 +98,13 @@ module _ (f : Features) (queue : List ℕ) where
   never-refused a k ks m c = by_way (which-way m)
     where
       by_way : Goes m → CarriedOut (calls f queue ks k (call f queue a m).memory).answer
-      by_way (stops why e) = let z : ◌≡◌ {A = ℕ} 0 1 = cc (ap (λ (o : Outcome Memory RunAnswer). o.answer) (e a), c.is_done) in absurd (omega arith)
+      by_way (stops why e) = let z : ◌≡◌ {A = ℕ} 0 1 = cc (ap (λ (o : Outcome Memory (Result Ran RunRefusal)). o.answer) (e a), c.is_done) in absurd (omega arith)
       by_way (carried n accepted q) =
           let m' = (run f queue a m).memory in
           rw (carries n a m accepted q)
           (record {
             ran = (again (due_in f queue) ks k m').ran;
-            is_done = ap (λ (o : Outcome Memory RunAnswer). o.answer) (calls_are n ks k m' (run-accepted f queue n a m accepted) (still-good n a m accepted q));
+            is_done = ap (λ (o : Outcome Memory (Result Ran RunRefusal)). o.answer) (calls_are n ks k m' (run-accepted f queue n a m accepted) (still-good n a m accepted q));
           })
 
   -- any number of cuts at any allowances, then a call that is not cut: answer and memory are those of a call that never was

@@ -4,8 +4,7 @@ use mathlib.Core.Path.{◌≡◌, refl, ◌∙◌}
 use mathlib.Core.List.{List}
 use Prim.Native.Nat.{ℕ}
 use native.Mathlib.Omega.{arith}
-use Rattle.words.specs.declared.Found.{Found}
-use Rattle.words.specs.declared.Found.TheVariants.{At, Nothing}
+use Rattle.std.specs.Prelude.{None, Option, Some}
 use Rattle.words.proofs.Search.{Lowest}
 use Rattle.control.specs.Control as control
 use Rattle.control.specs.declared.Rest.{Rest}
@@ -26,7 +25,7 @@ use Rattle.runs.specs.Running.{rests, stores, next_of, due_in}
 -- the store is one of three: the lowest row in scope of a legal command, the command itself once there is none, or the error
 pub data Case (f : Features) (queue : List ℕ) (m : Memory) (w : What) (m' : Memory) : Type 0 where
   removes : (c : Command) (i : ℕ) → at_rd f queue m ≡ Legal c → Lowest (scoped_at f c m) (rows_in m) 0 i → w ≡ Remove → m' ≡ cleared m i → Case f queue m w m'
-  consumes : (c : Command) → at_rd f queue m ≡ Legal c → scan f c m (rows_in m) 0 ≡ Nothing → w ≡ Consume (syncs_of (Legal c)) → m' ≡ storedIn m (after_command (Legal c) (control_of m)) → Case f queue m w m'
+  consumes : (c : Command) → at_rd f queue m ≡ Legal c → scan f c m (rows_in m) 0 ≡ None → w ≡ Consume (syncs_of (Legal c)) → m' ≡ storedIn m (after_command (Legal c) (control_of m)) → Case f queue m w m'
   raises : (why : Reason) → at_rd f queue m ≡ Illegal why → w ≡ Raise (raising_at why (control_of m)) → m' ≡ storedIn m (control-stores.raised (control_of m)) → Case f queue m w m'
 
 pub record IsDue (f : Features) (queue : List ℕ) (m : Memory) (w : What) (m' : Memory) : Type 0 where
@@ -34,9 +33,9 @@ pub record IsDue (f : Features) (queue : List ℕ) (m : Memory) (w : What) (m' :
   pub kind : Case f queue m w m'
 
 module _ (f : Features) (queue : List ℕ) (m : Memory) (w : What) (m' : Memory) where
-  scan_case : (c : Command) → at_rd f queue m ≡ Legal c → (x : Found) → scan f c m (rows_in m) 0 ≡ x → next_of (by_scan c (control_of m) x) m ≡ stores w m' → Case f queue m w m'
-  scan_case c legal (At i) e s = removes c i legal (lowest-scoped f c m (rows_in m) i e) (cc) (cc)
-  scan_case c legal Nothing e s = consumes c legal e (cc) (cc)
+  scan_case : (c : Command) → at_rd f queue m ≡ Legal c → (x : Option ℕ) → scan f c m (rows_in m) 0 ≡ x → next_of (by_scan c (control_of m) x) m ≡ stores w m' → Case f queue m w m'
+  scan_case c legal (Some i) e s = removes c i legal (lowest-scoped f c m (rows_in m) i e) (cc) (cc)
+  scan_case c legal None e s = consumes c legal e (cc) (cc)
 
   by_command : (d : Decoded) → at_rd f queue m ≡ d → next_of (due_for f d m) m ≡ stores w m' → Case f queue m w m'
   unfolding due_for
@@ -57,9 +56,9 @@ module _ (f : Features) (queue : List ℕ) (m : Memory) (r : Rest) where
   unfolding due_for
   never-rests (Legal c) e = by_found (scan f c m (rows_in m) 0) e
     where
-      by_found : (x : Found) → next_of (by_scan c (control_of m) x) m ≡ rests r → ⊥
-      by_found (At i) e = let z : ◌≡◌ {A = ℕ} 0 1 = cc in omega arith
-      by_found Nothing e = let z : ◌≡◌ {A = ℕ} 0 1 = cc in omega arith
+      by_found : (x : Option ℕ) → next_of (by_scan c (control_of m) x) m ≡ rests r → ⊥
+      by_found (Some i) e = let z : ◌≡◌ {A = ℕ} 0 1 = cc in omega arith
+      by_found None e = let z : ◌≡◌ {A = ℕ} 0 1 = cc in omega arith
   never-rests (Illegal why) e = let z : ◌≡◌ {A = ℕ} 0 1 = cc in omega arith
 
   -- so at rest means that the control word is

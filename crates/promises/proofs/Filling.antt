@@ -11,7 +11,7 @@ use Rattle.words.proofs.Stores.{after-all}
 use Rattle.words.proofs.Truth.{less_or_not}
 use Rattle.rows.specs.declared.Row.{Row}
 use Rattle.fills.specs.declared.FillEnd.TheVariants.{Filled, Cut}
-use Rattle.fills.specs.declared.FillAnswer.TheVariants.{Done}
+use Rattle.std.specs.Prelude.{Ok}
 use Rattle.fills.specs.Fills.{fill_stores, fill}
 use Rattle.fills.proofs.Laws.{Carried, left_by, enough, not_enough, still_carried, fill-again, Goes, stops, stores, which-way}
 use Rattle.promises.specs.Filling.{EndsCut, refilled, FillsCut, none, one}
@@ -38,7 +38,7 @@ module _ (row : ℕ) (words : Row) where
   uncut-same : (m : List ℕ) (n k j : ℕ) → Carried m n row words → 4 ≤ k → 4 ≤ j → fill m row words k ≡ fill m row words j
   uncut-same m n k j c h l = whole k h ∙ sym (whole j l)
     where
-      whole : (a : ℕ) → 4 ≤ a → fill m row words a ≡ with (Done (record { end = Filled; stores = 4 })) (after_stores 4 (fill_stores row words) m)
+      whole : (a : ℕ) → 4 ≤ a → fill m row words a ≡ with (Ok (record { end = Filled; stores = 4 })) (after_stores 4 (fill_stores row words) m)
       whole a b =
           let answer = enough m n row words c a b in
           let memory = left_by m n row words c a ∙ after-all a (fill_stores row words) m b in

@@ -9,7 +9,7 @@ use native.Mathlib.Decide.{ℕ_discrete}
 use native.Mathlib.Nat.{zero-add}
 use native.Mathlib.Numerals.{one-add}
 use native.Mathlib.Omega.{arith}
-use Rattle.words.specs.declared.Found.TheVariants.{Nothing}
+use Rattle.std.specs.Prelude.{None}
 use Rattle.words.proofs.Search.{Lowest, from_zero, none}
 use Rattle.words.proofs.Truth.{clash}
 use Rattle.control.specs.Control as control
@@ -142,7 +142,7 @@ module _ (f : Features) (queue : List ℕ) (n : ℕ) where
       ⊎_elim (λ s. memory.same_scopes f c n m m₂ found.others i s ∙ out) (λ z. memory.empty-unscoped f c m₂ i z.0) (found.early i h)
 
   -- a command was consumed, and the run went on
-  after-consume : (m m₂ : Memory) (k : ℕ) (e : End) (c : Command) → Accepts m n → at_rd f queue m ≡ Legal c → scan f c m (rows_in m) 0 ≡ Nothing
+  after-consume : (m m₂ : Memory) (k : ℕ) (e : End) (c : Command) → Accepts m n → at_rd f queue m ≡ Legal c → scan f c m (rows_in m) 0 ≡ None
       → Found f queue n k e (storedIn m (after_command (Legal c) (control_of m))) m₂ → Found f queue n (suc k) e m m₂
   unfolding advanced
   after-consume m m₂ k e c a legal nothing later =

@@ -7,8 +7,7 @@ use Prim.Native.Nat.{ℕ, zero, suc, ◌<◌}
 use native.Mathlib.Decide.{ℕ_discrete}
 use native.Mathlib.Nat.{zero-add, suc-add}
 use native.Mathlib.Omega.{arith}
-use Rattle.words.specs.declared.Found.{Found}
-use Rattle.words.specs.declared.Found.TheVariants.{At, Nothing}
+use Rattle.std.specs.Prelude.{None, Option, Some}
 use Rattle.words.specs.Search.{count}
 use Rattle.words.proofs.Truth.{clash}
 use Rattle.words.proofs.Search.{Lowest, from_zero, none, is_none, count_less, count_none_passes, none_pass_count}
@@ -28,12 +27,12 @@ use Rattle.runs.proofs.Turns.{plus-plus}
 use Rattle.promises.specs.Swept.{Swept, Exact}
 
 module _ (f : Features) (queue : List ℕ) (c : Command) where
-  is-remove : (m : Memory) (i : ℕ) → control.standing (control_of m) ≡ Open → at_rd f queue m ≡ Legal c → scan f c m (rows_in m) 0 ≡ At i
+  is-remove : (m : Memory) (i : ℕ) → control.standing (control_of m) ≡ Open → at_rd f queue m ≡ Legal c → scan f c m (rows_in m) 0 ≡ Some i
       → due_in f queue m ≡ stores Remove (cleared m i)
   unfolding due due_for
   is-remove m i on legal e = rw (on, legal, e)
 
-  is-consume : (m : Memory) → control.standing (control_of m) ≡ Open → at_rd f queue m ≡ Legal c → scan f c m (rows_in m) 0 ≡ Nothing
+  is-consume : (m : Memory) → control.standing (control_of m) ≡ Open → at_rd f queue m ≡ Legal c → scan f c m (rows_in m) 0 ≡ None
       → due_in f queue m ≡ stores (Consume (syncs_of (Legal c))) (storedIn m (after_command (Legal c) (control_of m)))
   unfolding due due_for
   is-consume m on legal e = rw (on, legal, e)
@@ -45,7 +44,7 @@ module _ (f : Features) (queue : List ℕ) (c : Command) where
     unfolding run_by
     none_left m a on legal out =
         let v = after_command (Legal c) (control_of m) in
-        let nothing : scan f c m (rows_in m) 0 ≡ Nothing =
+        let nothing : scan f c m (rows_in m) 0 ≡ None =
         from_zero (scoped_at f c m) (rows_in m) ∙ is_none (scoped_at f c m) (rows_in m) 0 (omega arith) (λ j x h. out j (rw (memory.rows_are m n a) at h)) in
         record {
           after = storedIn m v;
@@ -59,7 +58,7 @@ module _ (f : Features) (queue : List ℕ) (c : Command) where
         }
 
     -- the lowest row goes first, and the rest as from there
-    one_more : (m : Memory) (s i : ℕ) → Accepts m n → control.standing (control_of m) ≡ Open → at_rd f queue m ≡ Legal c → scan f c m (rows_in m) 0 ≡ At i
+    one_more : (m : Memory) (s i : ℕ) → Accepts m n → control.standing (control_of m) ≡ Open → at_rd f queue m ≡ Legal c → scan f c m (rows_in m) 0 ≡ Some i
         → Exact f queue c n s (cleared m i) → Exact f queue c n (suc s) m
     unfolding run_by
     one_more m s i a on legal e x =
@@ -93,8 +92,8 @@ module _ (f : Features) (queue : List ℕ) (c : Command) where
 
     scan_case : (s : ℕ) (m : Memory) → Accepts m n → control.standing (control_of m) ≡ Open → at_rd f queue m ≡ Legal c → count (scoped_at f c m) n ≡ suc s
         → ((m'' : Memory) → Accepts m'' n → control.standing (control_of m'') ≡ Open → at_rd f queue m'' ≡ Legal c → count (scoped_at f c m'') n ≡ s → Exact f queue c n s m'')
-        → (x : Found) → scan f c m (rows_in m) 0 ≡ x → Exact f queue c n (suc s) m
-    scan_case s m a on legal total ih (At i) e =
+        → (x : Option ℕ) → scan f c m (rows_in m) 0 ≡ x → Exact f queue c n (suc s) m
+    scan_case s m a on legal total ih (Some i) e =
         let low = lowest-scoped f c m (rows_in m) i e in
         let below : i < n = rw (memory.rows_are m n a) at low.below in
         let word = memory.control-cleared m i in
@@ -102,7 +101,7 @@ module _ (f : Features) (queue : List ℕ) (c : Command) where
         let less = count_less (scoped_at f c m) (scoped_at f c (cleared m i)) n i below low.passes out (λ j h d. memory.scoped_other f c m i j d) in
         one_more m s i a on legal e
         (ih (cleared m i) (memory.cleared-accepted m n a i below) (ap control.standing word ∙ on) (ap (λ (w : ℕ). decode_at f queue (control.slot w)) word ∙ legal) (omega (arith, less, total)))
-    scan_case s m a on legal total ih Nothing e =
+    scan_case s m a on legal total ih None e =
         let zeroes = none_pass_count (scoped_at f c m) n
         (λ j h. none (scoped_at f c m) (rows_in m) 0 (omega arith) (sym (from_zero (scoped_at f c m) (rows_in m)) ∙ e) j (omega arith) (rw (memory.rows_are m n a) h)) in
         absurd (omega (arith, zeroes, total))

@@ -20,7 +20,9 @@ use Rattle.row_forms.proofs.Marks.{old_unmarked}
 use Rattle.image.specs.Image.{row_at}
 use Rattle.image.specs.Rules as image
 use Rattle.image.proofs.Checks.{accepts}
-use Rattle.fills.specs.declared.FillAnswer.{FillAnswer}
+use Rattle.std.specs.Prelude.{Result}
+use Rattle.fills.specs.declared.Filling.{Filling}
+use Rattle.fills.specs.declared.FillRefusal.{FillRefusal}
 use Rattle.fills.specs.Fills.{fill}
 use Rattle.fills.proofs.Laws.{Carried, filled, other_rows_kept, stays-accepted, Goes, stops, stores, which-way}
 use Rattle.lookups.specs.declared.Wanted.{Wanted}
@@ -70,7 +72,7 @@ module _ (m : List ℕ) (row : ℕ) (words : Row) (marked : is_unmarked words �
   marked_fill_unseen = by_way (which-way m row words)
     where
       by_way : Goes m row words → translate (fill m row words k).memory t ≡ translate m t
-      by_way (stops why e) = ap (λ (o : Outcome (List ℕ) FillAnswer). translate o.memory t) (e k)
+      by_way (stops why e) = ap (λ (o : Outcome (List ℕ) (Result Filling FillRefusal)). translate o.memory t) (e k)
       by_way (stores n c) = by_allowance (less_or_not k 4)
         where
           by_allowance : (k < 4) ⊎ (4 ≤ k) → translate (fill m row words k).memory t ≡ translate m t

@@ -9,8 +9,12 @@ use lib.ListN.{length, get_or, set}
 use Rattle.words.specs.Choice.{pick}
 use Rattle.words.specs.Outcomes.{Outcome, with}
 use Rattle.words.specs.Search.{lowest}
-use Rattle.words.specs.declared.Found.{Found}
-use Rattle.words.specs.declared.Found.TheVariants.{At, Nothing}
+use Rattle.std.specs.Prelude.{Err, None, Ok, Option, Result, Some, ⊤}
+use Rattle.fills.specs.declared.Filling.{Filling}
+use Rattle.fills.specs.declared.FillRefusal.{FillRefusal}
+use Rattle.region_fills.specs.declared.FillRefusal.{FillRefusal as RegionFillsFillRefusal}
+use Rattle.writer.specs.declared.WriteRefusal.{WriteRefusal}
+use Rattle.batch_writes.specs.declared.BatchRefusal.{BatchRefusal}
 use Rattle.words.proofs.Truth.{through}
 use Rattle.attributes.specs.Formats as attributes
 use Rattle.rows.specs.declared.Row.{Row}
@@ -19,8 +23,6 @@ use Rattle.control_stores.specs.Stores.{may_ring}
 use Rattle.commands.specs.declared.Features.{Features}
 use Rattle.image.specs.declared.Refusal.{Refusal}
 use Rattle.image.specs.declared.Refusal.TheVariants.{BadLength, BadControl, BadRow}
-use Rattle.image.specs.declared.Checked.{Checked}
-use Rattle.image.specs.declared.Checked.TheVariants.{Accepted}
 use Rattle.image.specs.Image as image
 use Rattle.image.proofs.Checks.{bad_length, bad_control, rows_case, says, rows_are}
 use Rattle.runs.specs.declared.End.{End}
@@ -30,7 +32,6 @@ use Rattle.runs.specs.Call as runs
 use Rattle.doubles.specs.Doubles.{doubled}
 use Rattle.fills.specs.declared.FillEnd.{FillEnd}
 use Rattle.fills.specs.declared.FillEnd.TheVariants.{Filled, Cut as Fill-as-Cut}
-use Rattle.fills.specs.declared.FillAnswer.{FillAnswer}
 use Rattle.fills.specs.Fills as fills
 use Rattle.control_calls.specs.Calls as control-calls
 use Rattle.transactions.specs.declared.Transaction.{Transaction}
@@ -40,21 +41,14 @@ use Rattle.memory.specs.Memory.{Memory, rows_in}
 use Rattle.regions.specs.declared.Region.{Region}
 use Rattle.regions.specs.declared.Refusal.{Refusal as regions·Refusal}
 use Rattle.regions.specs.declared.Refusal.TheVariants.{BadLength as regions·BadLength, BadRow as regions·BadRow}
-use Rattle.regions.specs.declared.Checked.{Checked as regions·Checked}
-use Rattle.regions.specs.declared.Checked.TheVariants.{Accepted as regions·Accepted}
 use Rattle.regions.specs.Table as regions
 use Rattle.regions.proofs.Checks.{rows_case as regions·by-rows, says as regions·says, rows_are as regions·rows-are}
-use Rattle.region_fills.specs.declared.FillAnswer.{FillAnswer as region·FillAnswer}
 use Rattle.region_fills.specs.Fills as region-fills
 use Rattle.writer.specs.declared.Fault.TheVariants.{Missing, Unfit}
-use Rattle.writer.specs.declared.Verdict.TheVariants.{Fit, Faulty}
-use Rattle.writer.specs.declared.WriteAnswer.{WriteAnswer}
 use Rattle.writer.specs.Writing as writer
 use Rattle.batch_writes.specs.declared.Judged.{Judged}
 use Rattle.batch_writes.specs.declared.Judged.TheVariants.{AllFit, Bad}
 use Rattle.batch_writes.specs.declared.BatchRefusal.TheVariants.{NoRoom}
-use Rattle.batch_writes.specs.declared.BatchAnswer.{BatchAnswer}
-use Rattle.batch_writes.specs.declared.BatchAnswer.TheVariants.{Rung as Batched}
 use Rattle.batch_writes.specs.Batch as batch
 use Rattle.batch_writes.specs.Batch.{Lent}
 use Rattle.batches.specs.declared.Batch.TheVariants.{Original, Proposed}
@@ -64,15 +58,15 @@ use Rattle.promises.specs.Numbers.{run_number, check_number, fill_number, table_
 -- 1, 2 and 3, and then the numbers of the call's own
 module _ {A : Type 0} (m : List ℕ) (number : A → ℕ) (refuses : Refusal → A) (continues : ℕ → A) (rules : List Rule)
     (says-why : (why : Refusal) → number (refuses why) ≡ image.number why)
-    (says-rest : (n : ℕ) → image.check m ≡ Accepted n → number (continues n) ≡ first rules) where
-  abbrev told : Checked → ℕ
+    (says-rest : (n : ℕ) → image.check m ≡ Ok n → number (continues n) ≡ first rules) where
+  abbrev told : Result ℕ Refusal → ℕ
   told c = number (image.checked c refuses continues)
 
-  by_found : (x : Found) → lowest (image.is_bad m) (image.rows_in m) 0 ≡ x → image.length_good m ≡ true → control.well_formed (image.control_of m) ≡ true
+  by_found : (x : Option ℕ) → lowest (image.is_bad m) (image.rows_in m) 0 ≡ x → image.length_good m ≡ true → control.well_formed (image.control_of m) ≡ true
       → told (image.check m) ≡ first (of_image m ++ rules)
-  by_found (At i) e good formed = rw (rows_case m good formed, e, good, formed) (says-why (BadRow i))
-  by_found Nothing e good formed =
-      let accepted : image.check m ≡ Accepted (image.rows_in m) = rows_case m good formed ∙ rw e in
+  by_found (Some i) e good formed = rw (rows_case m good formed, e, good, formed) (says-why (BadRow i))
+  by_found None e good formed =
+      let accepted : image.check m ≡ Ok (image.rows_in m) = rows_case m good formed ∙ rw e in
       rw (accepted, e, good, formed) (says-rest (image.rows_in m) accepted)
 
   by-control : (b : Bool) → control.well_formed (image.control_of m) ≡ b → image.length_good m ≡ true → told (image.check m) ≡ first (of_image m ++ rules)
@@ -89,14 +83,14 @@ module _ {A : Type 0} (m : List ℕ) (number : A → ℕ) (refuses : Refusal →
 -- 13 and 14, and then the numbers of the call's own
 module _ {A : Type 0} (t : List ℕ) (number : A → ℕ) (refuses : regions·Refusal → A) (continues : ℕ → A) (rules : List Rule)
     (says-why : (why : regions·Refusal) → number (refuses why) ≡ regions.number why)
-    (says-rest : (n : ℕ) → regions.check t ≡ regions·Accepted n → number (continues n) ≡ first rules) where
-  abbrev second : regions·Checked → ℕ
+    (says-rest : (n : ℕ) → regions.check t ≡ Ok n → number (continues n) ≡ first rules) where
+  abbrev second : Result ℕ regions·Refusal → ℕ
   second c = number (regions.checked c refuses continues)
 
-  found-bad : (x : Found) → lowest (regions.is_bad t) (regions.rows_in t) 0 ≡ x → regions.length_good t ≡ true → second (regions.check t) ≡ first (of_table t ++ rules)
-  found-bad (At i) e good = rw (regions·by-rows t good, e, good) (says-why (regions·BadRow i))
-  found-bad Nothing e good =
-      let accepted : regions.check t ≡ regions·Accepted (regions.rows_in t) = regions·by-rows t good ∙ rw e in
+  found-bad : (x : Option ℕ) → lowest (regions.is_bad t) (regions.rows_in t) 0 ≡ x → regions.length_good t ≡ true → second (regions.check t) ≡ first (of_table t ++ rules)
+  found-bad (Some i) e good = rw (regions·by-rows t good, e, good) (says-why (regions·BadRow i))
+  found-bad None e good =
+      let accepted : regions.check t ≡ Ok (regions.rows_in t) = regions·by-rows t good ∙ rw e in
       rw (accepted, e, good) (says-rest (regions.rows_in t) accepted)
 
   long-or-not : (b : Bool) → regions.length_good t ≡ b → second (regions.check t) ≡ first (of_table t ++ rules)
@@ -125,11 +119,11 @@ module _ (f : Features) (original proposed : List ℕ) (m : Memory) where
   unfolding batches.judged
   judged-none = by_found (batches.unfit f original) (batches.unfit f proposed) (lowest (batches.differs (batches.left f original m) (batches.left f proposed m)) (rows_in m) 0)
     where
-      by_found : (x y z : Found) → check_number (batches.unfit_or Original x (batches.unfit_or Proposed y (batches.by_row z))) ≡ 0
-      by_found (At k) y z = refl
-      by_found Nothing (At k) z = refl
-      by_found Nothing Nothing (At i) = refl
-      by_found Nothing Nothing Nothing = refl
+      by_found : (x y z : Option ℕ) → check_number (batches.unfit_or Original x (batches.unfit_or Proposed y (batches.by_row z))) ≡ 0
+      by_found (Some k) y z = refl
+      by_found None (Some k) z = refl
+      by_found None None (Some i) = refl
+      by_found None None None = refl
 
   pub check-number : check_number (batches.check f original proposed m) ≡ first (of_image m.kept ++ of_table m.table ++ of_check original proposed)
   unfolding batches.check
@@ -143,7 +137,7 @@ pub number_of_table_fill : (m t : List ℕ) (row : ℕ) (words : Region) (k : �
     → table_fill_number (region-fills.fill m t row words k).answer ≡ first (of_image m ++ of_table t ++ of_table_fill t row words)
 unfolding region-fills.fill region-fills.fill_row
 number_of_table_fill m t row words k =
-    let number : Outcome (List ℕ) region·FillAnswer → ℕ = of_answer table_fill_number in
+    let number : Outcome (List ℕ) (Result Filling RegionFillsFillRefusal) → ℕ = of_answer table_fill_number in
     image-first m number _ _ (of_table t ++ of_table_fill t row words) (λ why. refl)
     (λ n e. table-first t number _ _ (of_table_fill t row words) (λ why. refl)
     (λ r g. rw (regions·rows-are t r ((regions·says t).accepted r g).size)
@@ -178,7 +172,7 @@ module _ (m : List ℕ) where
   pub fill-number : (row : ℕ) (words : Row) (k : ℕ) → fill_number (fills.fill m row words k).answer ≡ first (of_image m ++ of_fill m row words)
   unfolding fills.fill
   fill-number row words k =
-      let number : Outcome (List ℕ) FillAnswer → ℕ = of_answer fill_number in
+      let number : Outcome (List ℕ) (Result Filling FillRefusal) → ℕ = of_answer fill_number in
       image-first m number _ _ (of_fill m row words) (λ why. refl)
       (λ n e. rw (rows_are m n ((says m).accepted n e).size)
       (through number (leb n row) _ _
@@ -212,10 +206,10 @@ write-number f d slot =
     through number (not (eqb (length slot) writer.slot_size)) _ _
     ∙ ap (pick (not (eqb (length slot) writer.slot_size)) 19) (by_tests (writer.lacks f d) (writer.unfit f d))
   where
-    number : Outcome (List ℕ) WriteAnswer → ℕ
+    number : Outcome (List ℕ) (Result ⊤ WriteRefusal) → ℕ
     number = of_answer write_number
 
-    by_tests : (a b : Bool) → number (writer.by_verdict slot (pick a (Faulty Missing) (pick b (Faulty Unfit) (Fit (writer.split (writer.encoded d)))))) ≡ pick a 20 (pick b 21 0)
+    by_tests : (a b : Bool) → number (writer.by_verdict slot (pick a (Err Missing) (pick b (Err Unfit) (Ok (writer.split (writer.encoded d)))))) ≡ pick a 20 (pick b 21 0)
     by_tests true b = refl
     by_tests false true = refl
     by_tests false false = refl
@@ -227,7 +221,7 @@ number_of_batch f ws m =
     (λ rows e. through number (not (eqb (length m.queue) (writer.slot_size * 2 ^ control.log2size w))) _ _
     ∙ ap (pick (not (eqb (length m.queue) (writer.slot_size * 2 ^ control.log2size w))) 4) (by-judged (batch.judged_from f ws n 0)))
   where
-    number : Outcome Lent BatchAnswer → ℕ
+    number : Outcome Lent (Result ⊤ BatchRefusal) → ℕ
     number = of_answer batch_number
 
     w : ℕ
@@ -236,11 +230,11 @@ number_of_batch f ws m =
     n : ℕ
     n = batch.commands_in ws
 
-    by_room : (b : Bool) → number (pick b (batch.refused NoRoom m) (with Batched (batch.lent (set m.kept 0 (batch.moved_on w n)) (batch.placed ws w m.queue n)))) ≡ pick b 22 0
+    by_room : (b : Bool) → number (pick b (batch.refused NoRoom m) (with (Ok tt) (batch.lent (set m.kept 0 (batch.moved_on w n)) (batch.placed ws w m.queue n)))) ≡ pick b 22 0
     by_room true = refl
     by_room false = refl
 
-    by-judged : (j : Judged) → number (batch.by_judged j m (pick (ltb (batch.free_in w) n) (batch.refused NoRoom m) (with Batched (batch.lent (set m.kept 0 (batch.moved_on w n)) (batch.placed ws w m.queue n)))))
+    by-judged : (j : Judged) → number (batch.by_judged j m (pick (ltb (batch.free_in w) n) (batch.refused NoRoom m) (with (Ok tt) (batch.lent (set m.kept 0 (batch.moved_on w n)) (batch.placed ws w m.queue n)))))
         ≡ pick (first_lacks j) 20 (pick (first_unfit j) 21 (pick (ltb (batch.free_in w) n) 22 0))
     by-judged AllFit = by_room (ltb (batch.free_in w) n)
     by-judged (Bad i Missing) = refl

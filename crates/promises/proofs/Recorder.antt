@@ -5,12 +5,10 @@ use mathlib.Core.Bool.{Bool, true, false, not}
 use mathlib.Core.List.{List, [], ◌++◌}
 use Prim.Native.Nat.{ℕ}
 use lib.ListN.{get_or}
-use Rattle.words.specs.declared.Found.{Found}
-use Rattle.words.specs.declared.Found.TheVariants.{At, Nothing}
+use Rattle.std.specs.Prelude.{None, Option, Result, Some}
 use Rattle.words.proofs.Truth.{through}
 use Rattle.events.specs.declared.Refusal.{Refusal}
 use Rattle.events.specs.declared.Refusal.TheVariants.{BadLength, BadIndex}
-use Rattle.events.specs.declared.Checked.{Checked}
 use Rattle.events.specs.Word.{well_formed, outstanding, is_empty}
 use Rattle.events.specs.Events as events
 use Rattle.event_calls.specs.declared.WriteEnd.{WriteEnd}
@@ -23,18 +21,18 @@ use Rattle.promises.proofs.Numbers.{of_answer}
 -- 15 and 16, and then the numbers of the call's own
 module _ {A : Type 0} (m : List ℕ) (number : A → ℕ) (refuses : Refusal → A) (continues : ℕ → A) (rules : List Rule)
     (says-why : (why : Refusal) → number (refuses why) ≡ events.number why) (says-rest : (n : ℕ) → number (continues n) ≡ first rules) where
-  abbrev told : Checked → ℕ
+  abbrev told : Result ℕ Refusal → ℕ
   told c = number (events.checked c refuses continues)
 
-  index_case : (n : ℕ) → events.log2_of m ≡ At n → (b : Bool) → well_formed n (events.index_of m) ≡ b → told (events.check m) ≡ first (of_recorder m ++ rules)
+  index_case : (n : ℕ) → events.log2_of m ≡ Some n → (b : Bool) → well_formed n (events.index_of m) ≡ b → told (events.check m) ≡ first (of_recorder m ++ rules)
   unfolding events.check
   index_case n e true t = rw (e, t) (says-rest n)
   index_case n e false t = rw (e, t) (says-why BadIndex)
 
-  by-log2 : (f : Found) → events.log2_of m ≡ f → told (events.check m) ≡ first (of_recorder m ++ rules)
+  by-log2 : (f : Option ℕ) → events.log2_of m ≡ f → told (events.check m) ≡ first (of_recorder m ++ rules)
   unfolding events.check
-  by-log2 (At n) e = index_case n e (well_formed n (events.index_of m)) refl
-  by-log2 Nothing e = rw e (says-why BadLength)
+  by-log2 (Some n) e = index_case n e (well_formed n (events.index_of m)) refl
+  by-log2 None e = rw e (says-why BadLength)
 
   recorder-first : told (events.check m) ≡ first (of_recorder m ++ rules)
   recorder-first = by-log2 (events.log2_of m) refl

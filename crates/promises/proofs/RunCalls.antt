@@ -20,7 +20,9 @@ use Rattle.due.specs.declared.Raising.{Raising}
 use Rattle.due.specs.Due.{What, Remove, Consume, Raise, raising_at}
 use Rattle.runs.specs.declared.End.TheVariants.{Held, Raised}
 use Rattle.runs.specs.declared.RunRefusal.TheVariants.{BadQueue}
-use Rattle.runs.specs.declared.RunAnswer.{RunAnswer}
+use Rattle.std.specs.Prelude.{Result}
+use Rattle.runs.specs.declared.Ran.{Ran}
+use Rattle.runs.specs.declared.RunRefusal.{RunRefusal}
 use Rattle.runs.specs.Running.{Next, rests, stores, rested, last, next, run_by, due_in, run}
 use Rattle.runs.specs.Call.{queue_good, refused, done, call}
 use Rattle.runs.proofs.Calling.{goes_through, Answered, no, yes, answered}
@@ -36,7 +38,7 @@ pub refused-leaves : (f : Features) (queue : List ℕ) (k : ℕ) (m : Memory) �
 refused-leaves f queue k m never = by_answer (answered f queue m)
   where
     by_answer : Answered f queue m → (call f queue k m).memory ≡ m
-    by_answer (no why e) = ap (λ (o : Outcome Memory RunAnswer). o.memory) (e k)
+    by_answer (no why e) = ap (λ (o : Outcome Memory (Result Ran RunRefusal)). o.memory) (e k)
     by_answer (yes n a) = absurd (never n a)
 
 module _ (f : Features) (queue : List ℕ) (n : ℕ) where

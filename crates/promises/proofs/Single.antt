@@ -27,7 +27,9 @@ use Rattle.runs.specs.declared.RunRefusal.TheVariants.{BadQueue}
 use Rattle.runs.specs.Running.{due_in, run}
 use Rattle.runs.specs.Call.{queue_good, refused, done, call}
 use Rattle.runs.proofs.Calling.{goes_through}
-use Rattle.fills.specs.declared.FillAnswer.{FillAnswer}
+use Rattle.std.specs.Prelude.{Result}
+use Rattle.fills.specs.declared.Filling.{Filling}
+use Rattle.fills.specs.declared.FillRefusal.{FillRefusal}
 use Rattle.fills.specs.Fills.{fill}
 use Rattle.fills.proofs.Laws as fills
 use Rattle.promises.specs.Doubles.{Single}
@@ -90,7 +92,7 @@ pub fill-single : (m : List ℕ) (n row : ℕ) (words : Row) (k : ℕ) → Accep
 fill-single m n row words k a s = by_way (fills.which-way m row words)
   where
     by_way : fills.Goes m row words → Single (fill m row words k).memory n
-    by_way (fills.stops why g) = rw (ap (λ (o : Outcome (List ℕ) FillAnswer). o.memory) (g k)) s
+    by_way (fills.stops why g) = rw (ap (λ (o : Outcome (List ℕ) (Result Filling FillRefusal)). o.memory) (g k)) s
     by_way (fills.stores n' c) = ⊎_elim half whole (less_or_not k 4)
       where
         after : List ℕ

@@ -7,7 +7,9 @@ use mathlib.Core.Logic.{inl, inr}
 use Prim.Native.Nat.{ℕ, ◌<◌}
 use native.Mathlib.Decide.{ℕ_discrete}
 use native.Mathlib.Omega.{arith}
-use Rattle.words.specs.declared.Found.TheVariants.{At}
+use Rattle.std.specs.Prelude.{Result, Some}
+use Rattle.fills.specs.declared.Filling.{Filling}
+use Rattle.fills.specs.declared.FillRefusal.{FillRefusal}
 use Rattle.words.specs.Outcomes.{Outcome}
 use Rattle.rows.specs.declared.Row.{Row}
 use Rattle.rows.proofs.LastLevel.{empty-silent}
@@ -16,7 +18,6 @@ use Rattle.commands.specs.declared.Command.{Command}
 use Rattle.commands.specs.declared.Decoded.TheVariants.{Legal}
 use Rattle.image.specs.Image.{row_at}
 use Rattle.image.proofs.Checks.{accepts}
-use Rattle.fills.specs.declared.FillAnswer.{FillAnswer}
 use Rattle.fills.specs.Fills.{fill}
 use Rattle.fills.proofs.Laws.{Carried, other_rows_kept, half_filled, stays-accepted, Goes, stops, stores, which-way}
 use Rattle.memory.specs.Memory.{Memory, control_of, scoped_at}
@@ -48,12 +49,12 @@ module _ (m : List ℕ) (row : ℕ) (words : Row) (k : ℕ) (h : k < 4) (t : Tra
   half-filled-unseen = by_way (which-way m row words)
     where
       by_way : Goes m row words → translate (fill m row words k).memory t ≡ translate m t
-      by_way (stops why e) = ap (λ (o : Outcome (List ℕ) FillAnswer). translate o.memory t) (e k)
+      by_way (stops why e) = ap (λ (o : Outcome (List ℕ) (Result Filling FillRefusal)). translate o.memory t) (e k)
       by_way (stores n c) = carried-unseen n c
 
 -- what any search finds in the memory that a run leaves, at every allowance, lies in the scope of no command that it consumed
 pub none_through_consumed : (f : Features) (queue : List ℕ) (n k : ℕ) (m : Memory) → memory.Accepts m n
-    → (w : Wanted) (i : ℕ) → find (run f queue k m).memory.kept w ≡ At i
+    → (w : Wanted) (i : ℕ) → find (run f queue k m).memory.kept w ≡ Some i
     → (t : ℕ) (c : Command) → t < (run f queue k m).ran.consumed → command_at f queue (control_of m) t ≡ Legal c
     → scoped_at f c (run f queue k m).memory i ≡ false
 none_through_consumed f queue n k m a w i e t c h l =

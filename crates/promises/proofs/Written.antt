@@ -30,12 +30,11 @@ use Rattle.writer.specs.declared.Coded.{Coded}
 use Rattle.writer.specs.Layouts.{wide}
 use Rattle.writer.specs.Writing.{slot_size}
 use Rattle.writer.proofs.RoundTrip.{reads_back, coded_as}
-use Rattle.batch_writes.specs.declared.BatchAnswer.{BatchAnswer}
-use Rattle.batch_writes.specs.declared.BatchAnswer.TheVariants.{Rung}
+use Rattle.std.specs.Prelude.{Ok, Result, ⊤}
+use Rattle.batch_writes.specs.declared.BatchRefusal.{BatchRefusal}
 use Rattle.batch_writes.specs.Batch.{Lent, lent, words_of, commands_in, slot_at, placed, moved_on, write_batch}
 use Rattle.batch_writes.proofs.Judging.{each_fits}
 use Rattle.batch_writes.proofs.Placed.{placed-length}
-use Rattle.control_calls.specs.declared.DoorbellAnswer.TheVariants.{Rung as DidRing}
 use Rattle.control_calls.specs.Calls.{doorbell}
 use Rattle.control_calls.proofs.Cases.{doorbell-rings}
 use Rattle.image.proofs.Checks.{accepts}
@@ -44,7 +43,7 @@ use Rattle.promises.specs.Found.{command_at}
 use Rattle.promises.specs.Written.{AskedFor, ConsumesAll, RunsThrough}
 use Rattle.promises.proofs.Legal.{AllLegal, waiting-at, runs-empty}
 
-module _ (f : Features) (ws kept table queue : List ℕ) (n : ℕ) (rang : (write_batch f ws (lent kept queue)).answer ≡ Rung) (accepted : Accepts (both kept table) n) where
+module _ (f : Features) (ws kept table queue : List ℕ) (n : ℕ) (rang : (write_batch f ws (lent kept queue)).answer ≡ Ok tt) (accepted : Accepts (both kept table) n) where
   abbrev w : ℕ
   w = control_of (both kept table)
 
@@ -61,10 +60,10 @@ module _ (f : Features) (ws kept table queue : List ℕ) (n : ℕ) (rang : (writ
   formed = control_formed.formed w (memory.control_formed (both kept table) n accepted)
 
   new-queue : after.queue ≡ placed ws w queue many
-  new-queue = ap (λ (o : Outcome Lent BatchAnswer). o.memory.queue) r.leaves
+  new-queue = ap (λ (o : Outcome Lent (Result ⊤ BatchRefusal)). o.memory.queue) r.leaves
 
   new-memory : both after.kept table ≡ stored (both kept table) (moved_on w many)
-  new-memory = ap (λ (o : Outcome Lent BatchAnswer). both o.memory.kept table) r.leaves
+  new-memory = ap (λ (o : Outcome Lent (Result ⊤ BatchRefusal)). both o.memory.kept table) r.leaves
 
   new_word : control_of (both after.kept table) ≡ moved_on w many
   new_word = ap control_of new-memory ∙ memory.control-stored (both kept table) (memory.accepted-whole (both kept table) n accepted) (moved_on w many)
@@ -121,11 +120,11 @@ module _ (f : Features) (ws kept table queue : List ℕ) (n : ℕ) (rang : (writ
       }
 
   -- the control word is what the doorbell would have stored, which would not have refused it
-  pub rings-as-doorbell : doorbell kept ((control.wr w + many) % indexes.turn size) ≡ with DidRing after.kept
+  pub rings-as-doorbell : doorbell kept ((control.wr w + many) % indexes.turn size) ≡ with (Ok tt) after.kept
   unfolding moved_on
   rings-as-doorbell =
       doorbell-rings kept r.rows ((control.wr w + many) % indexes.turn size) (accepts kept r.rows r.accepted) (may w many formed r.room)
-      ∙ ap (with DidRing) (sym (ap (λ (o : Outcome Lent BatchAnswer). o.memory.kept) r.leaves))
+      ∙ ap (with (Ok tt)) (sym (ap (λ (o : Outcome Lent (Result ⊤ BatchRefusal)). o.memory.kept) r.leaves))
 
   -- and a run consumes them all
   module _ (waits : AllLegal f queue (control_of (both kept table))) (k : ℕ) (enough : used_rows (both kept table) n + (control.distance (control_of (both kept table)) + commands_in ws) ≤ k) where

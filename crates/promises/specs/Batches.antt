@@ -1,13 +1,12 @@
 -- Document 02, T-12: a queue whose waiting commands are exactly a batch.
 -- Assumes nothing.
-use Rattle.std.specs.Prelude.{◌≡◌, true, false, List, ℕ, ◌*◌, ◌^◌, ◌<◌, length}
+use Rattle.std.specs.Prelude.{◌≡◌, true, false, List, ℕ, ◌*◌, ◌^◌, ◌<◌, length, Ok, Result}
 use Rattle.control.specs.Control as control
 use Rattle.commands.specs.declared.Features.{Features}
 use Rattle.commands.specs.Decoding.{decode_at}
 use Rattle.runs.specs.declared.End.TheVariants.{Empty}
 use Rattle.runs.specs.declared.Ran.{Ran}
-use Rattle.runs.specs.declared.RunAnswer.{RunAnswer}
-use Rattle.runs.specs.declared.RunAnswer.TheVariants.{Done}
+use Rattle.runs.specs.declared.RunRefusal.{RunRefusal}
 use Rattle.batches.specs.Batches.{size}
 use Rattle.promises.specs.Found.{command_at}
 
@@ -21,7 +20,7 @@ pub record Waits (f : Features) (batch queue : List ℕ) (w : ℕ) : Type 0 wher
   pub are : (t : ℕ) → t < size batch → command_at f queue w t ≡ decode_at f batch t
 
 -- a run was carried out, and ended Empty
-pub record EndsEmpty (answer : RunAnswer) : Type 0 where
+pub record EndsEmpty (answer : Result Ran RunRefusal) : Type 0 where
   pub ran : Ran
-  pub is_done : answer ≡ Done ran
+  pub is_done : answer ≡ Ok ran
   pub ends_empty : ran.end ≡ Empty

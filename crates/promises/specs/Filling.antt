@@ -1,16 +1,16 @@
 -- Demand 3, of filling: cut, and made again with the same row and words.
 -- Assumes nothing.
-use Rattle.std.specs.Prelude.{◌≡◌, List, [], ◌∷◌, ℕ}
+use Rattle.std.specs.Prelude.{◌≡◌, List, [], ◌∷◌, ℕ, Err, Ok, Result}
 use Rattle.rows.specs.declared.Row.{Row}
 use Rattle.fills.specs.declared.FillEnd.TheVariants.{Cut}
-use Rattle.fills.specs.declared.FillAnswer.{FillAnswer}
-use Rattle.fills.specs.declared.FillAnswer.TheVariants.{Refused, Done}
+use Rattle.fills.specs.declared.Filling.{Filling}
+use Rattle.fills.specs.declared.FillRefusal.{FillRefusal}
 use Rattle.fills.specs.Fills.{fill}
 
 -- it was carried out, and ended Cut
-abbrev pub EndsCut : FillAnswer → Type 0
-EndsCut (Refused why) = ⊥
-EndsCut (Done filling) = filling.end ≡ Cut
+abbrev pub EndsCut : Result Filling FillRefusal → Type 0
+EndsCut (Err why) = ⊥
+EndsCut (Ok filling) = filling.end ≡ Cut
 
 -- the memory after fills with these allowances, each on the memory that the one before left
 unfoldable pub refilled : ℕ → Row → List ℕ → List ℕ → List ℕ

@@ -1,10 +1,21 @@
 -- Document 01, When the unit says no: the table, with each call's numbers in their order.
 -- Assumes nothing.
-use Rattle.std.specs.Prelude.{Bool, true, false, not, ◌&&◌, List, [], ◌∷◌, ℕ, ◌*◌, ◌%◌, ◌^◌, eqb, leb, ltb, length}
+use Rattle.std.specs.Prelude.{Bool, true, false, not, ◌&&◌, List, [], ◌∷◌, ℕ, ◌*◌, ◌%◌, ◌^◌, eqb, leb, ltb, length, Err, None, Ok, Option, Result, Some, ⊤}
 use Rattle.words.specs.Choice.{pick}
 use Rattle.words.specs.Search.{lowest}
-use Rattle.words.specs.declared.Found.{Found}
-use Rattle.words.specs.declared.Found.TheVariants.{At, Nothing}
+use Rattle.runs.specs.declared.Ran.{Ran}
+use Rattle.runs.specs.declared.RunRefusal.{RunRefusal}
+use Rattle.fills.specs.declared.Filling.{Filling}
+use Rattle.fills.specs.declared.FillRefusal.{FillRefusal}
+use Rattle.control_calls.specs.declared.DoorbellRefusal.{DoorbellRefusal}
+use Rattle.control_calls.specs.declared.AcknowledgeRefusal.{AcknowledgeRefusal}
+use Rattle.control_calls.specs.declared.ClearRefusal.{ClearRefusal}
+use Rattle.image.specs.declared.Refusal.{Refusal}
+use Rattle.transactions.specs.declared.Outcome.{Outcome}
+use Rattle.transactions.specs.declared.TransactionRefusal.{TransactionRefusal}
+use Rattle.region_fills.specs.declared.FillRefusal.{FillRefusal as RegionFillsFillRefusal}
+use Rattle.writer.specs.declared.WriteRefusal.{WriteRefusal}
+use Rattle.batch_writes.specs.declared.BatchRefusal.{BatchRefusal}
 use Rattle.attributes.specs.Formats as attributes
 use Rattle.rows.specs.declared.Row.{Row}
 use Rattle.control.specs.Control as control
@@ -12,44 +23,24 @@ use Rattle.control_stores.specs.Stores.{may_ring}
 use Rattle.image.specs.Image as image
 use Rattle.runs.specs.declared.End.{End}
 use Rattle.runs.specs.declared.End.TheVariants.{Off, Held, Empty, Raised, Cut}
-use Rattle.runs.specs.declared.RunAnswer.{RunAnswer}
-use Rattle.runs.specs.declared.RunAnswer.TheVariants.{Refused as NotRun, Done as DidRun}
 use Rattle.runs.specs.Call as runs
 use Rattle.doubles.specs.Doubles.{doubled}
 use Rattle.fills.specs.declared.FillEnd.{FillEnd}
 use Rattle.fills.specs.declared.FillEnd.TheVariants.{Filled, Cut as Fill-as-Cut}
-use Rattle.fills.specs.declared.FillAnswer.{FillAnswer}
-use Rattle.fills.specs.declared.FillAnswer.TheVariants.{Refused as NotFilled, Done as DidFill}
 use Rattle.fills.specs.Fills as fills
-use Rattle.control_calls.specs.declared.DoorbellAnswer.{DoorbellAnswer}
-use Rattle.control_calls.specs.declared.DoorbellAnswer.TheVariants.{Refused as NotRung, Rung}
-use Rattle.control_calls.specs.declared.AcknowledgeAnswer.{AcknowledgeAnswer}
-use Rattle.control_calls.specs.declared.AcknowledgeAnswer.TheVariants.{Refused as NotAcknowledged, Acknowledged}
-use Rattle.control_calls.specs.declared.ClearAnswer.{ClearAnswer}
-use Rattle.control_calls.specs.declared.ClearAnswer.TheVariants.{Refused as NotCleared, Cleared}
-use Rattle.control_calls.specs.declared.EnableAnswer.{EnableAnswer}
-use Rattle.control_calls.specs.declared.EnableAnswer.TheVariants.{Refused as NotSwitched, Switched}
 use Rattle.control_calls.specs.Calls as control-calls
 use Rattle.transactions.specs.declared.Transaction.{Transaction}
-use Rattle.transactions.specs.declared.TransactionAnswer.{TransactionAnswer}
-use Rattle.transactions.specs.declared.TransactionAnswer.TheVariants.{Refused as NotTranslated, Done as DidTranslate}
 use Rattle.transactions.specs.Call as transactions
 use Rattle.due.specs.declared.Raising.{Raising}
 use Rattle.memory.specs.Memory.{Memory}
 use Rattle.regions.specs.declared.Region.{Region}
 use Rattle.regions.specs.Table as regions
-use Rattle.region_fills.specs.declared.FillAnswer.{FillAnswer as region·FillAnswer}
-use Rattle.region_fills.specs.declared.FillAnswer.TheVariants.{Refused as NotTableFilled, Done as DidTableFill}
 use Rattle.region_fills.specs.Fills as region-fills
 use Rattle.commands.specs.declared.Features.{Features}
 use Rattle.writer.specs.declared.Fault.TheVariants.{Missing, Unfit}
-use Rattle.writer.specs.declared.WriteAnswer.{WriteAnswer}
-use Rattle.writer.specs.declared.WriteAnswer.TheVariants.{Refused as NotWritten, Written}
 use Rattle.writer.specs.Writing as writer
 use Rattle.batch_writes.specs.declared.Judged.{Judged}
 use Rattle.batch_writes.specs.declared.Judged.TheVariants.{AllFit, Bad}
-use Rattle.batch_writes.specs.declared.BatchAnswer.{BatchAnswer}
-use Rattle.batch_writes.specs.declared.BatchAnswer.TheVariants.{Refused as NotBatched, Rung as Batched}
 use Rattle.batch_writes.specs.Batch as batch
 use Rattle.batch_writes.specs.Batch.{Lent}
 use Rattle.batches.specs.declared.CheckAnswer.{CheckAnswer}
@@ -57,17 +48,17 @@ use Rattle.batches.specs.declared.CheckAnswer.TheVariants.{Refused as NotChecked
 use Rattle.batches.specs.Batches as batches
 
 -- the number of an answer: its refusal's, or 0 where the call was carried out
-abbrev pub run_number : RunAnswer → ℕ
-run_number (NotRun why) = runs.number why
-run_number (DidRun ran) = 0
+abbrev pub run_number : Result Ran RunRefusal → ℕ
+run_number (Err why) = runs.number why
+run_number (Ok ran) = 0
 
-abbrev pub fill_number : FillAnswer → ℕ
-fill_number (NotFilled why) = fills.number why
-fill_number (DidFill filling) = 0
+abbrev pub fill_number : Result Filling FillRefusal → ℕ
+fill_number (Err why) = fills.number why
+fill_number (Ok filling) = 0
 
-abbrev pub table_fill_number : region·FillAnswer → ℕ
-table_fill_number (NotTableFilled why) = region-fills.number why
-table_fill_number (DidTableFill filling) = 0
+abbrev pub table_fill_number : Result Filling RegionFillsFillRefusal → ℕ
+table_fill_number (Err why) = region-fills.number why
+table_fill_number (Ok filling) = 0
 
 abbrev pub check_number : CheckAnswer → ℕ
 check_number (NotChecked why) = batches.number why
@@ -75,25 +66,25 @@ check_number Same = 0
 check_number (NotFit batch command) = 0
 check_number (Differ row) = 0
 
-abbrev pub doorbell_number : DoorbellAnswer → ℕ
-doorbell_number (NotRung why) = control-calls.doorbell_number why
-doorbell_number Rung = 0
+abbrev pub doorbell_number : Result ⊤ DoorbellRefusal → ℕ
+doorbell_number (Err why) = control-calls.doorbell_number why
+doorbell_number (Ok tt) = 0
 
-abbrev pub acknowledge_number : AcknowledgeAnswer → ℕ
-acknowledge_number (NotAcknowledged why) = control-calls.acknowledge_number why
-acknowledge_number Acknowledged = 0
+abbrev pub acknowledge_number : Result ⊤ AcknowledgeRefusal → ℕ
+acknowledge_number (Err why) = control-calls.acknowledge_number why
+acknowledge_number (Ok tt) = 0
 
-abbrev pub clear_number : ClearAnswer → ℕ
-clear_number (NotCleared why) = control-calls.clear_number why
-clear_number Cleared = 0
+abbrev pub clear_number : Result ⊤ ClearRefusal → ℕ
+clear_number (Err why) = control-calls.clear_number why
+clear_number (Ok tt) = 0
 
-abbrev pub enable_number : EnableAnswer → ℕ
-enable_number (NotSwitched why) = image.number why
-enable_number Switched = 0
+abbrev pub enable_number : Result ⊤ Refusal → ℕ
+enable_number (Err why) = image.number why
+enable_number (Ok tt) = 0
 
-abbrev pub translate_number : TransactionAnswer → ℕ
-translate_number (NotTranslated why) = transactions.number why
-translate_number (DidTranslate outcome) = 0
+abbrev pub translate_number : Result Outcome TransactionRefusal → ℕ
+translate_number (Err why) = transactions.number why
+translate_number (Ok outcome) = 0
 
 -- a number and when it applies; of several the first that does, or 0
 pub record Rule : Type 0 where
@@ -104,9 +95,9 @@ abbrev pub first : List Rule → ℕ
 first [] = 0
 first (r ∷ rs) = pick r.applies r.number (first rs)
 
-abbrev pub some : Found → Bool
-some (At i) = true
-some Nothing = false
+abbrev pub some : Option ℕ → Bool
+some (Some i) = true
+some None = false
 
 -- tried first, by every call
 abbrev pub of_image : List ℕ → List Rule
@@ -167,9 +158,9 @@ abbrev pub fill_ends : List FillEnd
 fill_ends = Filled ∷ Fill-as-Cut ∷ []
 
 -- document 02, T-10: the writer's, which looks at no image, and the batch's, of which 20 or 21 is the first bad command's
-abbrev pub write_number : WriteAnswer → ℕ
-write_number (NotWritten why) = writer.number why
-write_number Written = 0
+abbrev pub write_number : Result ⊤ WriteRefusal → ℕ
+write_number (Err why) = writer.number why
+write_number (Ok tt) = 0
 
 abbrev pub of_write : Features → List ℕ → List ℕ → List Rule
 of_write f d slot =
@@ -178,9 +169,9 @@ of_write f d slot =
     ∷ record { number = 21; applies = writer.unfit f d }
     ∷ []
 
-abbrev pub batch_number : BatchAnswer → ℕ
-batch_number (NotBatched why) = batch.number why
-batch_number Batched = 0
+abbrev pub batch_number : Result ⊤ BatchRefusal → ℕ
+batch_number (Err why) = batch.number why
+batch_number (Ok tt) = 0
 
 abbrev pub first_lacks : Judged → Bool
 first_lacks AllFit = false

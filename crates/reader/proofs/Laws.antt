@@ -17,7 +17,7 @@ use Rattle.words.proofs.Truth.{less_or_not}
 use Rattle.commands.specs.declared.Features.{Features}
 use Rattle.commands.specs.Decoding.{decode_at}
 use Rattle.reader.specs.declared.Reader.{Reader}
-use Rattle.reader.specs.declared.Reading.TheVariants.{Command, PastEnd}
+use Rattle.std.specs.Prelude.{None, Some}
 use Rattle.reader.specs.Slots.{slot_end, is_inside, read_at, slots, slots_left, largest, after, begun, moved_on}
 
 module _ (bytes : List ℕ) (at : ℕ) where
@@ -29,34 +29,34 @@ module _ (bytes : List ℕ) (at : ℕ) where
 
 module _ (f : Features) (bytes : List ℕ) (at : ℕ) where
   -- a slot wholly inside: the decoder's command
-  pub reads : 16 * (at + 1) ≤ length bytes → read_at f bytes at ≡ Command (decode_at f bytes at)
+  pub reads : 16 * (at + 1) ≤ length bytes → read_at f bytes at ≡ Some (decode_at f bytes at)
   unfolding read_at
   reads h = rw (is-inside bytes at h)
 
   -- any other: past the end, and only such
-  pub past_end : length bytes < 16 * (at + 1) → read_at f bytes at ≡ PastEnd
+  pub past_end : length bytes < 16 * (at + 1) → read_at f bytes at ≡ None
   unfolding read_at
   past_end h = rw (not-inside bytes at h)
 
-  pub past-end-only : read_at f bytes at ≡ PastEnd → length bytes < 16 * (at + 1)
+  pub past-end-only : read_at f bytes at ≡ None → length bytes < 16 * (at + 1)
   past-end-only e = ⊎_elim (λ l. l) (λ l. never (cc (reads l))) (less_or_not (length bytes) (16 * (at + 1)))
     where
       never : ◌≡◌ {A = ℕ} 0 1 → length bytes < 16 * (at + 1)
       never z = absurd (omega arith)
 
   -- the same, by the number of whole slots
-  pub inside : at < slots bytes → read_at f bytes at ≡ Command (decode_at f bytes at)
+  pub inside : at < slots bytes → read_at f bytes at ≡ Some (decode_at f bytes at)
   inside h = reads (omega arith)
 
-  pub outside : slots bytes ≤ at → read_at f bytes at ≡ PastEnd
+  pub outside : slots bytes ≤ at → read_at f bytes at ≡ None
   outside h = past_end (omega arith)
 
   -- no slot is left exactly where reading is past the end
-  pub none_left : read_at f bytes at ≡ PastEnd → slots_left bytes at ≡ 0
+  pub none_left : read_at f bytes at ≡ None → slots_left bytes at ≡ 0
   unfolding slots_left
   none_left e = let h : length bytes < 16 * (at + 1) = past-end-only e in omega arith
 
-  pub left-none : slots_left bytes at ≡ 0 → read_at f bytes at ≡ PastEnd
+  pub left-none : slots_left bytes at ≡ 0 → read_at f bytes at ≡ None
   unfolding slots_left
   left-none e = past_end (omega arith)
 
@@ -77,7 +77,7 @@ module _ (bytes : List ℕ) (held : length bytes ≤ largest) where
   one_fewer at h = rw (continues at (omega arith)) (omega arith)
 
   -- past the end there is no way back
-  pub stays-past : (f : Features) (at : ℕ) → read_at f bytes at ≡ PastEnd → read_at f bytes (after at) ≡ PastEnd
+  pub stays-past : (f : Features) (at : ℕ) → read_at f bytes at ≡ None → read_at f bytes (after at) ≡ None
   stays-past f at e =
       let h : length bytes < 16 * (at + 1) = past-end-only f bytes at e in
       ⊎_elim (λ l. rw (continues at l) (past_end f bytes (at + 1) (omega arith))) (λ l. rw (stays at l) e) (less_or_not at largest)

@@ -1,13 +1,12 @@
 -- Document 01, What goes between host and unit: the queue as a reader. The kept memory: 16 bytes a slot.
 -- Assumes nothing.
-use Rattle.std.specs.Prelude.{ℕ, ◌+◌, ◌-◌, ◌*◌, ◌/◌, Bool, List, leb, ltb, length}
+use Rattle.std.specs.Prelude.{ℕ, ◌+◌, ◌-◌, ◌*◌, ◌/◌, Bool, List, leb, ltb, length, None, Option, Some}
 use Rattle.std.specs.Borrow.{Bor}
 use Rattle.words.specs.Choice.{pick}
 use Rattle.commands.specs.declared.Features.{Features}
 use Rattle.commands.specs.Decoding.{decode_at}
 use Rattle.reader.specs.declared.Reader.{Reader}
-use Rattle.reader.specs.declared.Reading.{Reading}
-use Rattle.reader.specs.declared.Reading.TheVariants.{Command, PastEnd}
+use Rattle.commands.specs.declared.Decoded.{Decoded}
 
 -- where the slot at an index ends, and whether it lies wholly inside the bytes
 abbrev pub slot_end : ℕ → ℕ
@@ -17,8 +16,8 @@ abbrev pub is_inside : List ℕ → ℕ → Bool
 is_inside bytes at = leb (slot_end at) (length bytes)
 
 -- the command in it; any other slot is past the end
-unfoldable pub read_at : Features → List ℕ → ℕ → Reading
-read_at f bytes at = pick (is_inside bytes at) (Command (decode_at f bytes at)) PastEnd
+unfoldable pub read_at : Features → List ℕ → ℕ → Option Decoded
+read_at f bytes at = pick (is_inside bytes at) (Some (decode_at f bytes at)) None
 
 -- how many whole slots there are, and how many of them from an index on
 abbrev pub slots : List ℕ → ℕ

@@ -13,13 +13,6 @@ pub struct Reader<'a> {
     pub at: usize,
 }
 
-// What stands at an index.
-#[derive(Clone, Copy)]
-pub enum Reading {
-    Command(Decoded),
-    PastEnd,
-}
-
 // Bytes of a slot.
 const SLOT: usize = 16;
 
@@ -27,13 +20,13 @@ const SLOT: usize = 16;
 const LAST: usize = 0xffff_ffff_ffff_ffff;
 
 // The slot at an index, if all of it is inside. Slots are compared and not bytes, which could wrap.
-pub fn read_at(f: Features, bytes: &[u8], at: usize) -> Reading
+pub fn read_at(f: Features, bytes: &[u8], at: usize) -> Option<Decoded>
     ensures { result ≡ read_at f bytes.now at }
 {
     if at < bytes.len() / SLOT {
-        return Reading::Command(commands::decode_at(f, bytes, at));
+        return Some(commands::decode_at(f, bytes, at));
     }
-    Reading::PastEnd
+    None
 }
 
 // The next index. The largest, which no bytes reach, stays.
@@ -65,7 +58,7 @@ pub fn new<'a>(bytes: &'a [u8]) -> Reader<'a>
 }
 
 // What stands at the reader's index.
-pub fn read<'a>(f: Features, r: Reader<'a>) -> Reading
+pub fn read<'a>(f: Features, r: Reader<'a>) -> Option<Decoded>
     ensures { result ≡ read_at f r.entry.bytes.now r.entry.at }
 {
     read_at(f, r.bytes, r.at)
@@ -87,7 +80,7 @@ pub fn slots_left<'a>(r: Reader<'a>) -> usize
 }
 
 // What stands in the slot after the first.
-pub fn second(f: Features, bytes: &[u8]) -> Reading
+pub fn second(f: Features, bytes: &[u8]) -> Option<Decoded>
     ensures { result ≡ read_at f bytes.now 1 }
 {
     read(f, moved_on(new(bytes)))

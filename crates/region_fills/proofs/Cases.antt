@@ -10,22 +10,20 @@ use borrow.Author.Tests.{eq-eqb, ne_eqb, le-leb, lt-leb}
 use Rattle.words.specs.Stores.{after_stores}
 use Rattle.words.specs.Outcomes.{Outcome, with, Gives}
 use Rattle.image.specs.declared.Refusal.{Refusal as Image-as-Refusal}
-use Rattle.image.specs.declared.Checked.TheVariants.{Accepted as Image-as-Accepted, Refused as Image-as-Refused}
+use Rattle.std.specs.Prelude.{Err, Ok, Result}
+use Rattle.region_fills.specs.declared.FillRefusal.{FillRefusal}
 use Rattle.image.specs.Image as image
 use Rattle.regions.specs.declared.Region.{Region}
 use Rattle.regions.specs.declared.Refusal.{Refusal}
-use Rattle.regions.specs.declared.Checked.TheVariants.{Accepted, Refused}
 use Rattle.regions.specs.Table.{row_at, is_used, check}
 use Rattle.regions.proofs.Checks.{says}
 use Rattle.fills.specs.declared.Filling.{Filling}
 use Rattle.region_fills.specs.declared.FillRefusal.TheVariants.{Image, Table, NoSuchRow, RowInUse, Unfit}
-use Rattle.region_fills.specs.declared.FillAnswer.{FillAnswer}
-use Rattle.region_fills.specs.declared.FillAnswer.TheVariants.{Done}
 use Rattle.region_fills.specs.Fills.{fill_stores, fit, report, refused, fill_row, fill, Stores}
 
 -- carried out under an allowance of k
-abbrev pub done : List ℕ → ℕ → Region → ℕ → Outcome (List ℕ) FillAnswer
-done t row words k = with (Done (report k)) (after_stores k (fill_stores row words) t)
+abbrev pub done : List ℕ → ℕ → Region → ℕ → Outcome (List ℕ) (Result Filling FillRefusal)
+done t row words k = with (Ok (report k)) (after_stores k (fill_stores row words) t)
 
 -- the row is used by its word 0
 module _ (t : List ℕ) (row : ℕ) where
@@ -38,7 +36,7 @@ module _ (t : List ℕ) (row : ℕ) where
   unused e = ap not (eq-eqb (get_or t (2 * row) 0) 0 e)
 
 -- the rows of an accepted table lie within it
-pub whole : (t : List ℕ) (n : ℕ) → check t ≡ Accepted n → 2 * n ≤ length t
+pub whole : (t : List ℕ) (n : ℕ) → check t ≡ Ok n → 2 * n ≤ length t
 whole t n e = omega (arith, ((says t).accepted n e).size.words)
 
 module _ (t : List ℕ) (n row : ℕ) (words : Region) (k : ℕ) where
@@ -60,23 +58,23 @@ module _ (t : List ℕ) (n row : ℕ) (words : Region) (k : ℕ) where
     row_done u f = rw (lt-leb n row h, u, f)
 
 module _ (m t : List ℕ) (row : ℕ) (words : Region) (k : ℕ) where
-  pub fill-image : (why : Image-as-Refusal) → image.check m ≡ Image-as-Refused why → fill m t row words k ≡ refused (Image why) t
+  pub fill-image : (why : Image-as-Refusal) → image.check m ≡ Err why → fill m t row words k ≡ refused (Image why) t
   unfolding fill
   fill-image why e = rw e
 
-  module _ (rows : ℕ) (i : image.check m ≡ Image-as-Accepted rows) where
-    pub fill-table : (why : Refusal) → check t ≡ Refused why → fill m t row words k ≡ refused (Table why) t
+  module _ (rows : ℕ) (i : image.check m ≡ Ok rows) where
+    pub fill-table : (why : Refusal) → check t ≡ Err why → fill m t row words k ≡ refused (Table why) t
     unfolding fill
     fill-table why e = rw (i, e)
 
-    pub fill-goes-on : (n : ℕ) → check t ≡ Accepted n → fill m t row words k ≡ fill_row t n row words k
+    pub fill-goes-on : (n : ℕ) → check t ≡ Ok n → fill m t row words k ≡ fill_row t n row words k
     unfolding fill
     fill-goes-on n e = rw (i, e)
 
 -- what holds of the outcome that a case has holds of the fill
-pub as_given : {o o' : Outcome (List ℕ) FillAnswer} {t' : List ℕ} {r : FillAnswer} → o ≡ o' → Gives o' t' r → Gives o t' r
+pub as_given : {o o' : Outcome (List ℕ) (Result Filling FillRefusal)} {t' : List ℕ} {r : (Result Filling FillRefusal)} → o ≡ o' → Gives o' t' r → Gives o t' r
 as_given e g = rw e g
 
 -- and what the stores ensured is the case of the stores
-pub meets-done : {t t' : List ℕ} {row : ℕ} {words : Region} {k : ℕ} {r : Filling} → Stores t row words k t' r → Gives (done t row words k) t' (Done r)
-meets-done s = record { answers = ap Done s.reports; leaves = s.leaves }
+pub meets-done : {t t' : List ℕ} {row : ℕ} {words : Region} {k : ℕ} {r : Filling} → Stores t row words k t' r → Gives (done t row words k) t' (Ok r)
+meets-done s = record { answers = ap Ok s.reports; leaves = s.leaves }

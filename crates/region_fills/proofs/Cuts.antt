@@ -11,7 +11,7 @@ use Rattle.words.proofs.Stores.{after-all}
 use Rattle.words.proofs.Truth.{less_or_not}
 use Rattle.regions.specs.declared.Region.{Region}
 use Rattle.fills.specs.declared.FillEnd.TheVariants.{Filled, Cut}
-use Rattle.region_fills.specs.declared.FillAnswer.TheVariants.{Done}
+use Rattle.std.specs.Prelude.{Ok}
 use Rattle.region_fills.specs.Fills.{fill_stores, fill}
 use Rattle.region_fills.specs.Cuts.{EndsCut, refilled, FillsCut, none, one}
 use Rattle.region_fills.proofs.Order.{report-filled}
@@ -29,7 +29,7 @@ module _ (m : List ℕ) (row : ℕ) (words : Region) where
     uncut-from : (EndsCut (fill m t row words k).answer → ⊥) → 2 ≤ k
     uncut-from uncut = ⊎_elim (λ h. absurd (uncut (rw (not_enough m t n row words c k h) refl))) (λ h. h) (less_or_not k 2)
 
-    all_same : 2 ≤ k → fill m t row words k ≡ with (Done (record { end = Filled; stores = 2 })) (after_stores 2 (fill_stores row words) t)
+    all_same : 2 ≤ k → fill m t row words k ≡ with (Ok (record { end = Filled; stores = 2 })) (after_stores 2 (fill_stores row words) t)
     all_same h = carried m t n row words c k ∙ rw (report-filled k h, after-all k (fill_stores row words) t h)
 
   -- nothing refuses it on the way

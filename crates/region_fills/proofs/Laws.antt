@@ -16,12 +16,12 @@ use Rattle.words.specs.Stores.{store_in, after_stores}
 use Rattle.words.specs.Outcomes.{Outcome, with}
 use Rattle.words.proofs.Stores.{after-all, after_length, stores_keep, untouched, over_cut}
 use Rattle.words.proofs.Truth.{left, right, and_true, less_or_not}
-use Rattle.image.specs.declared.Checked.{Checked as Image-as-Checked}
-use Rattle.image.specs.declared.Checked.TheVariants.{Accepted as Image-as-Accepted, Refused as Image-as-Refused}
+use Rattle.std.specs.Prelude.{Err, Ok, Result}
+use Rattle.image.specs.declared.Refusal.{Refusal}
+use Rattle.regions.specs.declared.Refusal.{Refusal as TableRefusal}
+use Rattle.fills.specs.declared.Filling.{Filling}
 use Rattle.image.specs.Image as image
 use Rattle.regions.specs.declared.Region.{Region}
-use Rattle.regions.specs.declared.Checked.{Checked}
-use Rattle.regions.specs.declared.Checked.TheVariants.{Accepted, Refused}
 use Rattle.regions.specs.Regions.{is_empty, well_formed}
 use Rattle.regions.specs.Table.{row_at, is_used, check}
 use Rattle.regions.proofs.Checks.{Accepts, has_row, accepts, says}
@@ -29,8 +29,6 @@ use Rattle.regions.proofs.AfterStores.{InRow, row_kept, empty-formed}
 use Rattle.fills.specs.declared.FillEnd.TheVariants.{Filled, Cut}
 use Rattle.region_fills.specs.declared.FillRefusal.{FillRefusal}
 use Rattle.region_fills.specs.declared.FillRefusal.TheVariants.{Image, Table, NoSuchRow, RowInUse, Unfit}
-use Rattle.region_fills.specs.declared.FillAnswer.{FillAnswer}
-use Rattle.region_fills.specs.declared.FillAnswer.TheVariants.{Refused as NotFilled, Done}
 use Rattle.region_fills.specs.Fills.{fill_stores, fit, report, refused, fill_row, fill}
 use Rattle.region_fills.proofs.Order.{both-places, report-cut, report-filled}
 use Rattle.region_fills.proofs.Cases.{done, row-none, row-in-use, row-unfit, row_done, fill-image, fill-table, fill-goes-on}
@@ -38,7 +36,7 @@ use Rattle.region_fills.proofs.Cases.{done, row-none, row-in-use, row-unfit, row
 -- a fill that no refusal stops
 pub record Carried (m t : List ℕ) (n row : ℕ) (words : Region) : Type 0 where
   pub rows : ℕ
-  pub kept : image.check m ≡ Image-as-Accepted rows
+  pub kept : image.check m ≡ Ok rows
   pub table : Accepts t n
   pub below : row < n
   pub empty : is_empty (row_at t row) ≡ true
@@ -93,14 +91,14 @@ module _ (m t : List ℕ) (n row : ℕ) (words : Region) (c : Carried m t n row 
   leaves k = (fill m t row words k).memory
 
   pub left_by : (k : ℕ) → leaves k ≡ after_stores k (fill_stores row words) t
-  left_by k = ap (λ (o : Outcome (List ℕ) FillAnswer). o.memory) (carried k)
+  left_by k = ap (λ (o : Outcome (List ℕ) (Result Filling FillRefusal)). o.memory) (carried k)
 
   -- enough: with two stores or more it ends Filled, with less it ends Cut, each with the stores it made
-  pub enough : (k : ℕ) → 2 ≤ k → (fill m t row words k).answer ≡ Done (record { end = Filled; stores = 2 })
-  enough k h = ap (λ (o : Outcome (List ℕ) FillAnswer). o.answer) (carried k) ∙ ap Done (report-filled k h)
+  pub enough : (k : ℕ) → 2 ≤ k → (fill m t row words k).answer ≡ Ok (record { end = Filled; stores = 2 })
+  enough k h = ap (λ (o : Outcome (List ℕ) (Result Filling FillRefusal)). o.answer) (carried k) ∙ ap Ok (report-filled k h)
 
-  pub not_enough : (k : ℕ) → k < 2 → (fill m t row words k).answer ≡ Done (record { end = Cut; stores = k })
-  not_enough k h = ap (λ (o : Outcome (List ℕ) FillAnswer). o.answer) (carried k) ∙ ap Done (report-cut k h)
+  pub not_enough : (k : ℕ) → k < 2 → (fill m t row words k).answer ≡ Ok (record { end = Cut; stores = k })
+  not_enough k h = ap (λ (o : Outcome (List ℕ) (Result Filling FillRefusal)). o.answer) (carried k) ∙ ap Ok (report-cut k h)
 
   -- at every allowance the other rows stay
   pub other_rows_kept : (k j : ℕ) → (j ≡ row → ⊥) → row_at (leaves k) j ≡ row_at t j
@@ -163,7 +161,7 @@ pub fill-again : (m t : List ℕ) (n row : ℕ) (words : Region) → Carried m t
     → fill m (fill m t row words k).memory row words k' ≡ fill m t row words k'
 fill-again m t n row words c k k' h h' =
     carried m (fill m t row words k).memory n row words (still_carried m t n row words c k h) k'
-    ∙ ap (with (Done (report k'))) same
+    ∙ ap (with (Ok (report k'))) same
     ∙ sym (carried m t n row words c k')
   where
     same : after_stores k' (fill_stores row words) (fill m t row words k).memory ≡ after_stores k' (fill_stores row words) t
@@ -182,11 +180,11 @@ module _ (m t : List ℕ) (row : ℕ) (words : Region) where
   unfolding is_used fit
   which-way = by_image (image.check m) refl
     where
-      on : (rows n : ℕ) → image.check m ≡ Image-as-Accepted rows → check t ≡ Accepted n → (why : FillRefusal)
+      on : (rows n : ℕ) → image.check m ≡ Ok rows → check t ≡ Ok n → (why : FillRefusal)
           → ((k : ℕ) → fill_row t n row words k ≡ refused why t) → Goes m t row words
       on rows n i e why f = stops why (λ k. fill-goes-on m t row words k rows i n e ∙ f k)
 
-      by_fit : (rows n : ℕ) → image.check m ≡ Image-as-Accepted rows → check t ≡ Accepted n → row < n → is_used t row ≡ false
+      by_fit : (rows n : ℕ) → image.check m ≡ Ok rows → check t ≡ Ok n → row < n → is_used t row ≡ false
           → (b : Bool) → fit words ≡ b → Goes m t row words
       by_fit rows n i e h u false f = on rows n i e Unfit (λ k. row-unfit t n row words k h u f)
       by_fit rows n i e h u true f =
@@ -201,27 +199,27 @@ module _ (m t : List ℕ) (row : ℕ) (words : Region) where
             some = not-true (is_empty words) (right (well_formed words) (not (is_empty words)) f);
           })
 
-      by_use : (rows n : ℕ) → image.check m ≡ Image-as-Accepted rows → check t ≡ Accepted n → row < n → (b : Bool) → is_used t row ≡ b → Goes m t row words
+      by_use : (rows n : ℕ) → image.check m ≡ Ok rows → check t ≡ Ok n → row < n → (b : Bool) → is_used t row ≡ b → Goes m t row words
       by_use rows n i e h true u = on rows n i e RowInUse (λ k. row-in-use t n row words k h u)
       by_use rows n i e h false u = by_fit rows n i e h u (fit words) refl
 
-      by_table : (rows : ℕ) → image.check m ≡ Image-as-Accepted rows → (a : Checked) → check t ≡ a → Goes m t row words
-      by_table rows i (Refused why) e = stops (Table why) (λ k. fill-table m t row words k rows i why e)
-      by_table rows i (Accepted n) e =
+      by_table : (rows : ℕ) → image.check m ≡ Ok rows → (a : Result ℕ TableRefusal) → check t ≡ a → Goes m t row words
+      by_table rows i (Err why) e = stops (Table why) (λ k. fill-table m t row words k rows i why e)
+      by_table rows i (Ok n) e =
           ⊎_elim (λ h. by_use rows n i e h (is_used t row) refl) (λ h. on rows n i e NoSuchRow (λ k. row-none t n row words k h)) (less_or_not row n)
 
-      by_image : (a : Image-as-Checked) → image.check m ≡ a → Goes m t row words
-      by_image (Image-as-Refused why) e = stops (Image why) (λ k. fill-image m t row words k why e)
-      by_image (Image-as-Accepted rows) e = by_table rows e (check t) refl
+      by_image : (a : Result ℕ Refusal) → image.check m ≡ a → Goes m t row words
+      by_image (Err why) e = stops (Image why) (λ k. fill-image m t row words k why e)
+      by_image (Ok rows) e = by_table rows e (check t) refl
 
   -- a refusal stores nothing
-  pub refused-leaves : (k : ℕ) (why : FillRefusal) → (fill m t row words k).answer ≡ NotFilled why → (fill m t row words k).memory ≡ t
+  pub refused-leaves : (k : ℕ) (why : FillRefusal) → (fill m t row words k).answer ≡ Err why → (fill m t row words k).memory ≡ t
   refused-leaves k why e = by_way which-way
     where
       by_way : Goes m t row words → (fill m t row words k).memory ≡ t
-      by_way (stops why' g) = ap (λ (o : Outcome (List ℕ) FillAnswer). o.memory) (g k)
+      by_way (stops why' g) = ap (λ (o : Outcome (List ℕ) (Result Filling FillRefusal)). o.memory) (g k)
       by_way (stores n c) =
-          let z : ◌≡◌ {A = ℕ} 0 1 = cc (ap (λ (o : Outcome (List ℕ) FillAnswer). o.answer) (carried m t n row words c k)) in
+          let z : ◌≡◌ {A = ℕ} 0 1 = cc (ap (λ (o : Outcome (List ℕ) (Result Filling FillRefusal)). o.answer) (carried m t n row words c k)) in
           absurd (omega arith)
 
   -- an accepted table stays accepted, whatever is answered and wherever the power goes
@@ -229,7 +227,7 @@ module _ (m t : List ℕ) (row : ℕ) (words : Region) where
   accepted_at_every_allowance k n a = by_way which-way
     where
       by_way : Goes m t row words → Accepts (fill m t row words k).memory n
-      by_way (stops why g) = rw (ap (λ (o : Outcome (List ℕ) FillAnswer). o.memory) (g k)) a
+      by_way (stops why g) = rw (ap (λ (o : Outcome (List ℕ) (Result Filling FillRefusal)). o.memory) (g k)) a
       by_way (stores n' c) =
           let same : n' ≡ n = cc (accepts t n a, accepts t n' c.table) in
           rw (← same) (stays-accepted m t n' row words c k)

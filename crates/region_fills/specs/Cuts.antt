@@ -1,16 +1,16 @@
 -- Document 02, T-11, for demand 3: a fill that is cut, and made again with the same row and words.
 -- Assumes nothing.
-use Rattle.std.specs.Prelude.{◌≡◌, List, [], ◌∷◌, ℕ}
+use Rattle.std.specs.Prelude.{◌≡◌, List, [], ◌∷◌, ℕ, Err, Ok, Result}
 use Rattle.regions.specs.declared.Region.{Region}
 use Rattle.fills.specs.declared.FillEnd.TheVariants.{Cut}
-use Rattle.region_fills.specs.declared.FillAnswer.{FillAnswer}
-use Rattle.region_fills.specs.declared.FillAnswer.TheVariants.{Refused, Done}
+use Rattle.fills.specs.declared.Filling.{Filling}
+use Rattle.region_fills.specs.declared.FillRefusal.{FillRefusal}
 use Rattle.region_fills.specs.Fills.{fill}
 
 -- it was carried out, and ended Cut
-abbrev pub EndsCut : FillAnswer → Type 0
-EndsCut (Refused why) = ⊥
-EndsCut (Done filling) = filling.end ≡ Cut
+abbrev pub EndsCut : Result Filling FillRefusal → Type 0
+EndsCut (Err why) = ⊥
+EndsCut (Ok filling) = filling.end ≡ Cut
 
 -- the table after fills with these allowances, each on the table that the one before left; and that each of them ended Cut
 unfoldable pub refilled : List ℕ → ℕ → Region → List ℕ → List ℕ → List ℕ

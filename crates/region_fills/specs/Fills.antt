@@ -1,6 +1,6 @@
 -- Document 02, T-11: filling a row of the second lent table; refusals 13 and 14, and 7, 8 and 9 as they are read for it.
 -- Assumes nothing.
-use Rattle.std.specs.Prelude.{◌≡◌, Bool, not, ◌&&◌, List, [], ◌∷◌, ℕ, ◌+◌, ◌*◌, leb, ltb}
+use Rattle.std.specs.Prelude.{◌≡◌, Bool, not, ◌&&◌, List, [], ◌∷◌, ℕ, ◌+◌, ◌*◌, leb, ltb, Err, Ok, Result}
 use Rattle.words.specs.Choice.{pick}
 use Rattle.words.specs.Outcomes.{Outcome, with}
 use Rattle.words.specs.Stores.{Store, store_in, after_stores}
@@ -12,8 +12,6 @@ use Rattle.fills.specs.declared.FillEnd.TheVariants.{Filled, Cut}
 use Rattle.fills.specs.declared.Filling.{Filling}
 use Rattle.region_fills.specs.declared.FillRefusal.{FillRefusal}
 use Rattle.region_fills.specs.declared.FillRefusal.TheVariants.{Image, Table, NoSuchRow, RowInUse, Unfit}
-use Rattle.region_fills.specs.declared.FillAnswer.{FillAnswer}
-use Rattle.region_fills.specs.declared.FillAnswer.TheVariants.{Refused as NotFilled, Done}
 
 -- the paper's number of each refusal; that of an end is as for other fills
 abbrev pub number : FillRefusal → ℕ
@@ -39,19 +37,19 @@ fit words = well_formed words && not (is_empty words)
 unfoldable pub report : ℕ → Filling
 report k = pick (ltb k 2) (record { end = Cut; stores = k }) (record { end = Filled; stores = 2 })
 
-abbrev pub refused : FillRefusal → List ℕ → Outcome (List ℕ) FillAnswer
-refused why t = with (NotFilled why) t
+abbrev pub refused : FillRefusal → List ℕ → Outcome (List ℕ) (Result Filling FillRefusal)
+refused why t = with (Err why) t
 
 -- 7, 8 and 9 in their order for a table t of n rows, and then the stores
-unfoldable pub fill_row : List ℕ → ℕ → ℕ → Region → ℕ → Outcome (List ℕ) FillAnswer
+unfoldable pub fill_row : List ℕ → ℕ → ℕ → Region → ℕ → Outcome (List ℕ) (Result Filling FillRefusal)
 fill_row t n row words k =
     pick (leb n row) (refused NoSuchRow t)
     (pick (table.is_used t row) (refused RowInUse t)
     (pick (not (fit words)) (refused Unfit t)
-    (with (Done (report k)) (after_stores k (fill_stores row words) t))))
+    (with (Ok (report k)) (after_stores k (fill_stores row words) t))))
 
 -- 1, 2 and 3 of the kept memory m, then 13 and 14 of the table t come before them
-unfoldable pub fill : List ℕ → List ℕ → ℕ → Region → ℕ → Outcome (List ℕ) FillAnswer
+unfoldable pub fill : List ℕ → List ℕ → ℕ → Region → ℕ → Outcome (List ℕ) (Result Filling FillRefusal)
 fill m t row words k =
     image.checked (image.check m) (λ why. refused (Image why) t)
     (λ rows. table.checked (table.check t) (λ why. refused (Table why) t)

@@ -18,10 +18,20 @@ pub enum FillRefusal {
     Unfit,
 }
 
-#[derive(Clone, Copy)]
-pub enum FillAnswer {
-    Refused(FillRefusal),
-    Done(Filling),
+impl From<image::Refusal> for FillRefusal {
+    ghost from_gives = { λ why e. e ≡ FillRefusal.Image why };
+
+    fn from(why: image::Refusal) -> FillRefusal {
+        FillRefusal::Image(why)
+    }
+}
+
+impl From<regions::Refusal> for FillRefusal {
+    ghost from_gives = { λ why e. e ≡ FillRefusal.Table why };
+
+    fn from(why: regions::Refusal) -> FillRefusal {
+        FillRefusal::Table(why)
+    }
 }
 
 // Whether a row may hold these words: well formed, and not empty.
@@ -76,21 +86,21 @@ fn steps(table: &mut [u64], row: usize, words: Region, allowance: u64) -> Fillin
 }
 
 // Fills an empty row of a table of n rows with fit words.
-fn fill_row(table: &mut [u64], n: usize, row: usize, words: Region, allowance: u64) -> FillAnswer
+fn fill_row(table: &mut [u64], n: usize, row: usize, words: Region, allowance: u64) -> Result<Filling, FillRefusal>
     requires { 2 * n ≤ length table.old }
     ensures { Gives (fill_row table.old n row words allowance) table.new result }
 {
     if n <= row {
-        return FillAnswer::Refused(FillRefusal::NoSuchRow);
+        return Err(FillRefusal::NoSuchRow);
     }
     if table[2 * row] != 0 {
-        return FillAnswer::Refused(FillRefusal::RowInUse);
+        return Err(FillRefusal::RowInUse);
     }
     if !is_fit(words) {
-        return FillAnswer::Refused(FillRefusal::Unfit);
+        return Err(FillRefusal::Unfit);
     }
     let done = steps(&mut *table, row, words, allowance);
-    FillAnswer::Done(done)
+    Ok(done)
 }
 
 // The kept memory is only checked, as by every call.
@@ -100,14 +110,10 @@ pub fn fill(
     row: usize,
     words: Region,
     allowance: u64,
-) -> FillAnswer
+) -> Result<Filling, FillRefusal>
     ensures { Gives (fill kept.now table.old row words allowance) table.new result }
 {
-    match image::check(kept) {
-        image::Checked::Refused(why) => FillAnswer::Refused(FillRefusal::Image(why)),
-        image::Checked::Accepted(_) => match regions::check(&*table) {
-            regions::Checked::Refused(why) => FillAnswer::Refused(FillRefusal::Table(why)),
-            regions::Checked::Accepted(n) => fill_row(&mut *table, n, row, words, allowance),
-        },
-    }
+    image::check(kept)?;
+    let n = regions::check(&*table)?;
+    fill_row(&mut *table, n, row, words, allowance)
 }

@@ -9,13 +9,11 @@ use lib.Dec.{eqb, leb}
 use lib.ListN.{length}
 use borrow.Author.Tests.{eq-eqb, eqb-true, le-leb, leb-true, not-false}
 use Rattle.words.specs.Search.{lowest}
-use Rattle.words.specs.declared.Found.{Found}
-use Rattle.words.specs.declared.Found.TheVariants.{At, Nothing}
+use Rattle.std.specs.Prelude.{Err, None, Ok, Option, Result, Some}
+use Rattle.regions.specs.declared.Refusal.{Refusal}
 use Rattle.words.proofs.Truth.{left, right, and_true, clash}
 use Rattle.words.proofs.Search.{Lowest, from_zero, found, none, found_lowest, is_none}
 use Rattle.regions.specs.declared.Refusal.TheVariants.{BadLength, BadRow}
-use Rattle.regions.specs.declared.Checked.{Checked}
-use Rattle.regions.specs.declared.Checked.TheVariants.{Accepted, Refused}
 use Rattle.regions.specs.Regions.{well_formed}
 use Rattle.regions.specs.Table.{max_rows, rows_in, row_at, length_good, is_bad, by_rows, check}
 
@@ -48,7 +46,7 @@ module _ (t : List ℕ) where
   of_long n l =
       rw (rows_are n l) (and_true (and_true (eq-eqb (length t) (2 * n) l.words) (le-leb 1 n l.some)) (le-leb n max_rows l.few))
 
-  bad_length : length_good t ≡ false → check t ≡ Refused BadLength
+  bad_length : length_good t ≡ false → check t ≡ Err BadLength
   unfolding check
   bad_length e = rw e
 
@@ -75,43 +73,43 @@ module _ (t : List ℕ) where
   formed_row i e = ap not e
 
   -- refusal 13, exactly if the length is no table's
-  pub refuses_length : ((n : ℕ) → Long t n → ⊥) → check t ≡ Refused BadLength
+  pub refuses_length : ((n : ℕ) → Long t n → ⊥) → check t ≡ Err BadLength
   refuses_length never-long = by_test (length_good t) refl
     where
-      by_test : (b : Bool) → length_good t ≡ b → check t ≡ Refused BadLength
+      by_test : (b : Bool) → length_good t ≡ b → check t ≡ Err BadLength
       by_test true e = absurd (never-long (rows_in t) (long t e))
       by_test false e = bad_length t e
 
   -- refusal 14, exactly if the length is good and a row is ill formed; the lowest is named
-  pub refuses_row : (n k : ℕ) → Long t n → Lowest (is_bad t) n 0 k → check t ≡ Refused (BadRow k)
+  pub refuses_row : (n k : ℕ) → Long t n → Lowest (is_bad t) n 0 k → check t ≡ Err (BadRow k)
   refuses_row n k l low =
       rows_case t (of_long t n l) ∙ rw (rows_are t n l) (ap (by_rows n) (from_zero (is_bad t) n ∙ found_lowest (is_bad t) n 0 k low))
 
   -- accepted, exactly if all are good
-  pub accepts : (n : ℕ) → Accepts t n → check t ≡ Accepted n
+  pub accepts : (n : ℕ) → Accepts t n → check t ≡ Ok n
   accepts n a =
       rows_case t (of_long t n a.size)
       ∙ rw (rows_are t n a.size)
       (ap (by_rows n) (from_zero (is_bad t) n ∙ is_none (is_bad t) n 0 (omega arith) (λ i l h. formed_row i (a.rows-formed i h))))
 
 -- the converse: what each answer says of the table
-pub record Says (t : List ℕ) (answer : Checked) : Type 0 where
-  pub length_refused : answer ≡ Refused BadLength → (n : ℕ) → Long t n → ⊥
-  pub row_refused : (k : ℕ) → answer ≡ Refused (BadRow k) → Long t (rows_in t) × Lowest (is_bad t) (rows_in t) 0 k
-  pub accepted : (n : ℕ) → answer ≡ Accepted n → Accepts t n
+pub record Says (t : List ℕ) (answer : Result ℕ Refusal) : Type 0 where
+  pub length_refused : answer ≡ Err BadLength → (n : ℕ) → Long t n → ⊥
+  pub row_refused : (k : ℕ) → answer ≡ Err (BadRow k) → Long t (rows_in t) × Lowest (is_bad t) (rows_in t) 0 k
+  pub accepted : (n : ℕ) → answer ≡ Ok n → Accepts t n
 
 module _ (t : List ℕ) where
   never {ℓ} : {A : Type ℓ} → ◌≡◌ {A = ℕ} 0 1 → A
   never z = absurd (omega arith)
 
-  says-found : (f : Found) → lowest (is_bad t) (rows_in t) 0 ≡ f → length_good t ≡ true → Says t (by_rows (rows_in t) f)
-  says-found (At i) e good =
+  says-found : (f : Option ℕ) → lowest (is_bad t) (rows_in t) 0 ≡ f → length_good t ≡ true → Says t (by_rows (rows_in t) f)
+  says-found (Some i) e good =
       record {
         length_refused = λ q. never (cc);
         row_refused = λ k q. (long t good, found (is_bad t) (rows_in t) 0 k (omega arith) (sym (from_zero (is_bad t) (rows_in t)) ∙ (cc)));
         accepted = λ n q. never (cc);
       }
-  says-found Nothing e good =
+  says-found None e good =
       record {
         length_refused = λ q. never (cc);
         row_refused = λ k q. never (cc);
@@ -121,7 +119,7 @@ module _ (t : List ℕ) where
         };
       }
     where
-      rows_counted : (n : ℕ) → by_rows (rows_in t) Nothing ≡ Accepted n → rows_in t ≡ n
+      rows_counted : (n : ℕ) → by_rows (rows_in t) None ≡ Ok n → rows_in t ≡ n
       rows_counted n q = cc
 
   pub says : Says t (check t)

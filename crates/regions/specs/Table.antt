@@ -1,15 +1,11 @@
 -- Document 02, T-11: the second lent table, rows of two words; refusals 13 and 14.
 -- Assumes nothing.
-use Rattle.std.specs.Prelude.{ℕ, ◌+◌, ◌*◌, ◌/◌, Bool, not, ◌&&◌, List, eqb, leb, length, get_or}
+use Rattle.std.specs.Prelude.{ℕ, ◌+◌, ◌*◌, ◌/◌, Bool, not, ◌&&◌, List, eqb, leb, length, get_or, Err, None, Ok, Option, Result, Some}
 use Rattle.words.specs.Choice.{pick}
 use Rattle.words.specs.Search.{lowest, count}
-use Rattle.words.specs.declared.Found.{Found}
-use Rattle.words.specs.declared.Found.TheVariants.{At, Nothing}
 use Rattle.regions.specs.declared.Region.{Region}
 use Rattle.regions.specs.declared.Refusal.{Refusal}
 use Rattle.regions.specs.declared.Refusal.TheVariants.{BadLength, BadRow}
-use Rattle.regions.specs.declared.Checked.{Checked}
-use Rattle.regions.specs.declared.Checked.TheVariants.{Accepted, Refused}
 use Rattle.regions.specs.Regions.{is_empty, well_formed}
 
 -- the most rows
@@ -30,18 +26,18 @@ length_good t = eqb (length t) (2 * rows_in t) && leb 1 (rows_in t) && leb (rows
 unfoldable pub is_bad : List ℕ → ℕ → Bool
 is_bad t i = not (well_formed (row_at t i))
 
-abbrev pub by_rows : ℕ → Found → Checked
-by_rows n (At i) = Refused (BadRow i)
-by_rows n Nothing = Accepted n
+abbrev pub by_rows : ℕ → Option ℕ → Result ℕ Refusal
+by_rows n (Some i) = Err (BadRow i)
+by_rows n None = Ok n
 
 -- the number of rows, or the first refusal that applies; of ill-formed rows the lowest is named
-unfoldable pub check : List ℕ → Checked
-check t = pick (not (length_good t)) (Refused BadLength) (by_rows (rows_in t) (lowest (is_bad t) (rows_in t) 0))
+unfoldable pub check : List ℕ → Result ℕ Refusal
+check t = pick (not (length_good t)) (Err BadLength) (by_rows (rows_in t) (lowest (is_bad t) (rows_in t) 0))
 
 -- a refused table is answered so, an accepted one of n rows goes on
-abbrev pub checked : {A : Type 0} → Checked → (Refusal → A) → (ℕ → A) → A
-checked (Refused why) refused next = refused why
-checked (Accepted n) refused next = next n
+abbrev pub checked : {A : Type 0} → Result ℕ Refusal → (Refusal → A) → (ℕ → A) → A
+checked (Err why) refused next = refused why
+checked (Ok n) refused next = next n
 
 -- the paper's number of each refusal
 abbrev pub number : Refusal → ℕ

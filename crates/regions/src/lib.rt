@@ -1,7 +1,6 @@
 // The second lent table: cached regions of the device permission table, rows of two words.
 #![tactic(auto)]
 
-use words::Found;
 
 mod fields;
 mod places;
@@ -31,13 +30,6 @@ pub enum Refusal {
     BadRow(usize),
 }
 
-// What a check answers: the number of rows, or a refusal.
-#[derive(Clone, Copy)]
-pub enum Checked {
-    Accepted(usize),
-    Refused(Refusal),
-}
-
 // The two words of row i.
 pub fn row_at(table: &[u64], i: usize) -> Region
     requires { 2 * i + 2 ≤ length table.now }
@@ -57,36 +49,36 @@ fn is_bad(table: &[u64], i: usize) -> bool
     !well_formed(row_at(table, i))
 }
 
-fn lowest_bad(table: &[u64], n: usize) -> Found
+fn lowest_bad(table: &[u64], n: usize) -> Option<usize>
     requires { 2 * n ≤ length table.now }
     ensures { result ≡ lowest (is_bad table.now) n 0 }
 {
     let mut i = 0;
     while i < n {
         if is_bad(table, i) {
-            return Found::At(i);
+            return Some(i);
         }
         i += 1;
     }
-    Found::Nothing
+    None
 }
 
 // The number of rows, or refusal 13 or 14.
-pub fn check(table: &[u64]) -> Checked
+pub fn check(table: &[u64]) -> Result<usize, Refusal>
     ensures { result ≡ check table.now }
 {
     let n = table.len() / 2;
     if table.len() != 2 * n {
-        return Checked::Refused(Refusal::BadLength);
+        return Err(Refusal::BadLength);
     }
     if n < 1 {
-        return Checked::Refused(Refusal::BadLength);
+        return Err(Refusal::BadLength);
     }
     if MAX_ROWS < n {
-        return Checked::Refused(Refusal::BadLength);
+        return Err(Refusal::BadLength);
     }
     match lowest_bad(table, n) {
-        Found::At(i) => Checked::Refused(Refusal::BadRow(i)),
-        Found::Nothing => Checked::Accepted(n),
+        Some(i) => Err(Refusal::BadRow(i)),
+        None => Ok(n),
     }
 }

@@ -16,18 +16,17 @@ use Rattle.control.proofs.Formed as control
 use Rattle.control_stores.proofs.AfterStores.{acknowledged-keeps, acknowledged-sets, acknowledged-quiet, acknowledged-formed}
 use Rattle.registers.specs.declared.RegistersRefusal.{RegistersRefusal}
 use Rattle.registers.specs.declared.RegistersRefusal.TheVariants.{IllFormed, NoError}
-use Rattle.registers.specs.declared.RegistersAnswer.{RegistersAnswer}
-use Rattle.registers.specs.declared.RegistersAnswer.TheVariants.{Refused, Acknowledged}
+use Rattle.std.specs.Prelude.{Err, Ok, Result, ⊤}
 use Rattle.registers.specs.declared.Decision.{Decision}
 use Rattle.registers.specs.Registers.{given, packed, fits, formed, with_gerrorn, decided, afterwards, Acknowledges}
 use Rattle.registers.proofs.Packed.{fit, is_fit, packed_zero, packed_lt, unpacked, packed-again, below}
 
 -- the three outcomes
 abbrev pub refused : RegistersRefusal → Fields → Decision
-refused why f = record { answer = Refused why; gerrorn = f.gerrorn }
+refused why f = record { answer = Err why; gerrorn = f.gerrorn }
 
 abbrev pub done : Fields → Decision
-done f = record { answer = Acknowledged; gerrorn = f.gerror }
+done f = record { answer = Ok tt; gerrorn = f.gerror }
 
 -- which of them it is, and why
 pub data Way (f : Fields) : Type 0 where
@@ -92,7 +91,7 @@ module _ (f : Fields) where
       by_way (quiet e t d) = (e, t)
       by_way (carried_out e t d) = absurd (omega (arith, r, ap number_of d))
 
-  pub carried-out-only : (decided f).answer ≡ Acknowledged → (formed f ≡ true) × (active (packed f) ≡ true)
+  pub carried-out-only : (decided f).answer ≡ Ok tt → (formed f ≡ true) × (active (packed f) ≡ true)
   carried-out-only r = by_way way
     where
       by_way : Way f → (formed f ≡ true) × (active (packed f) ≡ true)
@@ -101,7 +100,7 @@ module _ (f : Fields) where
       by_way (carried_out e t d) = (e, t)
 
   -- a refusal changes no field
-  pub refused-keeps : (why : RegistersRefusal) → (decided f).answer ≡ Refused why → afterwards f ≡ f
+  pub refused-keeps : (why : RegistersRefusal) → (decided f).answer ≡ Err why → afterwards f ≡ f
   refused-keeps why r = by_way way
     where
       by_way : Way f → afterwards f ≡ f
@@ -110,18 +109,18 @@ module _ (f : Fields) where
       by_way (carried_out e t d) = never (cc (answer_of d))
 
   -- otherwise GERRORN is GERROR, and every other field stays
-  pub acknowledged-leaves : (decided f).answer ≡ Acknowledged → afterwards f ≡ with_gerrorn f.gerror f
+  pub acknowledged-leaves : (decided f).answer ≡ Ok tt → afterwards f ≡ with_gerrorn f.gerror f
   acknowledged-leaves r =
       let p = carried-out-only r in
       ap (λ (x : Decision). with_gerrorn x.gerrorn f) (carried-out p.0 p.1)
 
   -- two outcomes allowed for the same fields are equal
-  pub one-outcome : (f₁ f₂ : Fields) (r₁ r₂ : RegistersAnswer) → Acknowledges f f₁ r₁ → Acknowledges f f₂ r₂ → (f₁ ≡ f₂) × (r₁ ≡ r₂)
+  pub one-outcome : (f₁ f₂ : Fields) (r₁ r₂ : Result ⊤ RegistersRefusal) → Acknowledges f f₁ r₁ → Acknowledges f f₂ r₂ → (f₁ ≡ f₂) × (r₁ ≡ r₂)
   one-outcome f₁ f₂ r₁ r₂ p q = (p.leaves ∙ sym q.leaves, p.answers ∙ sym q.answers)
 
 -- acknowledging by the control word: its answer, and the word that it leaves
-abbrev pub word_answer : ℕ → RegistersAnswer
-word_answer w = pick (not (well_formed w)) (Refused IllFormed) (pick (not (active w)) (Refused NoError) Acknowledged)
+abbrev pub word_answer : ℕ → Result ⊤ RegistersRefusal
+word_answer w = pick (not (well_formed w)) (Err IllFormed) (pick (not (active w)) (Err NoError) (Ok tt))
 
 abbrev pub word_after : ℕ → ℕ
 word_after w = pick (well_formed w && active w) (acknowledged w) w

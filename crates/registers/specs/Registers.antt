@@ -1,14 +1,12 @@
 -- Document 01, What goes between host and unit: the unpacked control fields, and acknowledging in place.
 -- Assumes nothing.
-use Rattle.std.specs.Prelude.{◌≡◌, Bool, not, ◌&&◌, ℕ, ◌+◌, ◌-◌, ◌^◌, List, [], ◌∷◌, ltb}
+use Rattle.std.specs.Prelude.{◌≡◌, Bool, not, ◌&&◌, ℕ, ◌+◌, ◌-◌, ◌^◌, List, [], ◌∷◌, ltb, Err, Ok, Result, ⊤}
 use Rattle.words.specs.Choice.{pick}
 use Rattle.words.specs.Ranges.{Range, bits, Field, puts}
 use Rattle.control.specs.declared.Fields.{Fields}
 use Rattle.control.specs.Control.{rd_bits, wr_bits, err_bits, gerror_bits, gerrorn_bits, cmdqen_bits, log2size_bits, pending_bits, active, well_formed}
 use Rattle.registers.specs.declared.RegistersRefusal.{RegistersRefusal}
 use Rattle.registers.specs.declared.RegistersRefusal.TheVariants.{IllFormed, NoError}
-use Rattle.registers.specs.declared.RegistersAnswer.{RegistersAnswer}
-use Rattle.registers.specs.declared.RegistersAnswer.TheVariants.{Refused, Acknowledged}
 use Rattle.registers.specs.declared.Decision.{Decision}
 
 -- the paper's numbers of the refusals
@@ -17,9 +15,9 @@ number IllFormed = 2
 number NoError = 6
 
 -- the number of the refusal that an answer is, or 0
-abbrev pub given : RegistersAnswer → ℕ
-given (Refused why) = number why
-given Acknowledged = 0
+abbrev pub given : Result ⊤ RegistersRefusal → ℕ
+given (Err why) = number why
+given (Ok tt) = 0
 
 -- the word that the fields make, each in its part; what a field has above that part's width is left out
 abbrev pub in_parts : Fields → List Field
@@ -73,15 +71,15 @@ with_gerrorn v f =
 -- refusal 2, else refusal 6, each with GERRORN as it is; else GERRORN becomes GERROR
 unfoldable pub decided : Fields → Decision
 decided f =
-    pick (not (formed f)) (record { answer = Refused IllFormed; gerrorn = f.gerrorn })
-    (pick (not (active (packed f))) (record { answer = Refused NoError; gerrorn = f.gerrorn })
-    (record { answer = Acknowledged; gerrorn = f.gerror }))
+    pick (not (formed f)) (record { answer = Err IllFormed; gerrorn = f.gerrorn })
+    (pick (not (active (packed f))) (record { answer = Err NoError; gerrorn = f.gerrorn })
+    (record { answer = Ok tt; gerrorn = f.gerror }))
 
 -- the fields then: all but GERRORN as they were
 abbrev pub afterwards : Fields → Fields
 afterwards f = with_gerrorn (decided f).gerrorn f
 
 -- what acknowledging ensures of the fields f before and f' after it, and of its answer r
-pub record Acknowledges (f f' : Fields) (r : RegistersAnswer) : Type 0 where
+pub record Acknowledges (f f' : Fields) (r : Result ⊤ RegistersRefusal) : Type 0 where
   pub answers : r ≡ (decided f).answer
   pub leaves : f' ≡ afterwards f

@@ -13,16 +13,10 @@ pub enum RegistersRefusal {
     NoError,
 }
 
-#[derive(Clone, Copy)]
-pub enum RegistersAnswer {
-    Refused(RegistersRefusal),
-    Acknowledged,
-}
-
 // What is answered, and GERRORN then.
 #[derive(Clone, Copy)]
 pub struct Decision {
-    pub answer: RegistersAnswer,
+    pub answer: Result<(), RegistersRefusal>,
     pub gerrorn: u64,
 }
 
@@ -71,24 +65,24 @@ pub fn decide(f: Fields) -> Decision
     let w = pack(f);
     if !(fits(f) & control::well_formed(w)) {
         return Decision {
-            answer: RegistersAnswer::Refused(RegistersRefusal::IllFormed),
+            answer: Err(RegistersRefusal::IllFormed),
             gerrorn: f.gerrorn,
         };
     }
     if !control::active(w) {
         return Decision {
-            answer: RegistersAnswer::Refused(RegistersRefusal::NoError),
+            answer: Err(RegistersRefusal::NoError),
             gerrorn: f.gerrorn,
         };
     }
     Decision {
-        answer: RegistersAnswer::Acknowledged,
+        answer: Ok(()),
         gerrorn: f.gerror,
     }
 }
 
 // Only GERRORN is stored, also on a refusal, which stores what was there.
-pub fn acknowledge(r: &mut Fields) -> RegistersAnswer
+pub fn acknowledge(r: &mut Fields) -> Result<(), RegistersRefusal>
     ensures { Acknowledges r.old r.new result }
 {
     let d = decide(*r);

@@ -12,40 +12,36 @@ use Rattle.words.specs.Outcomes.{Gives}
 use Rattle.control.specs.Control as control
 use Rattle.commands.specs.declared.Features.{Features}
 use Rattle.image.specs.declared.Refusal.{Refusal}
-use Rattle.image.specs.declared.Checked.{Checked}
-use Rattle.image.specs.declared.Checked.TheVariants.{Accepted, Refused as NotAccepted}
+use Rattle.std.specs.Prelude.{Err, Ok, Result}
 use Rattle.image.specs.Image.{check}
 use Rattle.memory.specs.Memory.{Memory, control_of}
 use Rattle.memory.proofs.Laws.{Accepts, accepts-both, accepted-whole, rows_are}
 use Rattle.image.proofs.Checks.{says, accepts}
 use Rattle.regions.specs.declared.Refusal.{Refusal as regions·Refusal}
-use Rattle.regions.specs.declared.Checked.{Checked as regions·Checked}
-use Rattle.regions.specs.declared.Checked.TheVariants.{Accepted as regions·Accepted, Refused as regions·NotAccepted}
 use Rattle.regions.specs.Table as regions
 use Rattle.regions.proofs.Checks.{says as regions·says, accepts as regions·accepts}
 use Rattle.runs.specs.declared.Ran.{Ran}
 use Rattle.runs.specs.declared.RunRefusal.{RunRefusal}
 use Rattle.runs.specs.declared.RunRefusal.TheVariants.{Image, Table, BadQueue}
-use Rattle.runs.specs.declared.RunAnswer.TheVariants.{Refused, Done}
 use Rattle.runs.specs.Running.{Does, Fit, run}
 use Rattle.runs.specs.Call.{queue_good, refused, done, call}
 
 -- x and y are what the checks of the two tables said, b what that of the queue's length said
-module _ (f : Features) (queue : List ℕ) (k : ℕ) (m : Memory) {x : Checked} (first : x ≡ check m.kept) where
-  pub refuses-image : {why : Refusal} → x ≡ NotAccepted why → Gives (call f queue k m) m (Refused (Image why))
+module _ (f : Features) (queue : List ℕ) (k : ℕ) (m : Memory) {x : (Result ℕ Refusal)} (first : x ≡ check m.kept) where
+  pub refuses-image : {why : Refusal} → x ≡ Err why → Gives (call f queue k m) m (Err (Image why))
   unfolding call
   refuses-image e = let s = sym first ∙ e in record { answers = rw s; leaves = rw s }
 
-  pub some_words : {n : ℕ} → x ≡ Accepted n → 0 < length m.kept
+  pub some_words : {n : ℕ} → x ≡ Ok n → 0 < length m.kept
   some_words {n} e = omega (arith, ((says m.kept).accepted n (sym first ∙ e)).size.words)
 
-  module _ {n : ℕ} (e : x ≡ Accepted n) {y : regions·Checked} (second : y ≡ regions.check m.table) where
-    pub refuses-table : {why : regions·Refusal} → y ≡ regions·NotAccepted why → Gives (call f queue k m) m (Refused (Table why))
+  module _ {n : ℕ} (e : x ≡ Ok n) {y : (Result ℕ regions·Refusal)} (second : y ≡ regions.check m.table) where
+    pub refuses-table : {why : regions·Refusal} → y ≡ Err why → Gives (call f queue k m) m (Err (Table why))
     unfolding call
     refuses-table g = let s = sym first ∙ e in let t = sym second ∙ g in record { answers = rw (s, t); leaves = rw (s, t) }
 
-    module _ {r : ℕ} (g : y ≡ regions·Accepted r) {b : Bool} (long : b ≡ queue_good queue m) where
-      pub refuses-queue : not b ≡ true → Gives (call f queue k m) m (Refused BadQueue)
+    module _ {r : ℕ} (g : y ≡ Ok r) {b : Bool} (long : b ≡ queue_good queue m) where
+      pub refuses-queue : not b ≡ true → Gives (call f queue k m) m (Err BadQueue)
       unfolding call
       refuses-queue q =
           let s = sym first ∙ e in
@@ -53,13 +49,13 @@ module _ (f : Features) (queue : List ℕ) (k : ℕ) (m : Memory) {x : Checked} 
           let bad : queue_good queue m ≡ false = sym long ∙ not-true b q in
           record { answers = rw (s, t, bad); leaves = rw (s, t, bad) }
 
-      pub does : {m' : Memory} {ran : Ran} → not b ≡ false → Does f queue k m m' ran → Gives (call f queue k m) m' (Done ran)
+      pub does : {m' : Memory} {ran : Ran} → not b ≡ false → Does f queue k m m' ran → Gives (call f queue k m) m' (Ok ran)
       unfolding call
       does q d =
           let s = sym first ∙ e in
           let t = sym second ∙ g in
           let good : queue_good queue m ≡ true = sym long ∙ not-false b q in
-          record { answers = rw (s, t, good) (ap Done d.answers); leaves = rw (s, t, good) d.leaves }
+          record { answers = rw (s, t, good) (ap Ok d.answers); leaves = rw (s, t, good) d.leaves }
 
       -- accepted memory and its queue fit a run
       pub fits-run : not b ≡ false → Fit queue m
@@ -86,10 +82,10 @@ pub answered : (f : Features) (queue : List ℕ) (m : Memory) → Answered f que
 unfolding call
 answered f queue m = by_image (check m.kept) refl
   where
-    by_table : (n : ℕ) → check m.kept ≡ Accepted n → (y : regions·Checked) → regions.check m.table ≡ y → Answered f queue m
-    by_table n e (regions·NotAccepted why) g = no (Table why) (λ k. rw (e, g))
-    by_table n e (regions·Accepted r) g = yes (n + r) (accepts-both m n r ((says m.kept).accepted n e) ((regions·says m.table).accepted r g))
+    by_table : (n : ℕ) → check m.kept ≡ Ok n → (y : Result ℕ regions·Refusal) → regions.check m.table ≡ y → Answered f queue m
+    by_table n e (Err why) g = no (Table why) (λ k. rw (e, g))
+    by_table n e (Ok r) g = yes (n + r) (accepts-both m n r ((says m.kept).accepted n e) ((regions·says m.table).accepted r g))
 
-    by_image : (x : Checked) → check m.kept ≡ x → Answered f queue m
-    by_image (NotAccepted why) e = no (Image why) (λ k. rw e)
-    by_image (Accepted n) e = by_table n e (regions.check m.table) refl
+    by_image : (x : Result ℕ Refusal) → check m.kept ≡ x → Answered f queue m
+    by_image (Err why) e = no (Image why) (λ k. rw e)
+    by_image (Ok n) e = by_table n e (regions.check m.table) refl

@@ -8,8 +8,7 @@ use native.Mathlib.Omega.{arith}
 use lib.ListN.{length}
 use mir.Val.{Fits}
 use mir.Syntax.{w64}
-use Rattle.words.specs.declared.Found.{Found}
-use Rattle.words.specs.declared.Found.TheVariants.{At, Nothing}
+use Rattle.std.specs.Prelude.{None, Option, Some}
 use Rattle.control.specs.Control as control
 use Rattle.control.specs.declared.Rest.{Rest}
 use Rattle.control.specs.declared.Standing.{Standing}
@@ -73,9 +72,9 @@ unfolding due
 due-rests f queue m e h = rw h
 
 -- something is always due for a command
-cut-scan : (c : Command) (w : ℕ) (x : Found) (m : Memory) → last (next_of (by_scan c w x) m) m ≡ rested Cut m
-cut-scan c w (At i) m = refl
-cut-scan c w Nothing m = refl
+cut-scan : (c : Command) (w : ℕ) (x : Option ℕ) (m : Memory) → last (next_of (by_scan c w x) m) m ≡ rested Cut m
+cut-scan c w (Some i) m = refl
+cut-scan c w None m = refl
 
 pub due_cuts : (f : Features) (d : Decoded) (m : Memory) → last (next_of (due_for f d m) m) m ≡ rested Cut m
 unfolding due_for

@@ -9,7 +9,7 @@ ghost use Rattle.runs.specs.Call.{call};
 
 use commands::Features;
 use due::Raising;
-use image::{Checked, Refusal};
+use image::Refusal;
 pub use running::queue_good;
 
 // Why a run ended; the error that it raised tells its reason and its slot.
@@ -40,10 +40,20 @@ pub enum RunRefusal {
     BadQueue,
 }
 
-#[derive(Clone, Copy)]
-pub enum RunAnswer {
-    Refused(RunRefusal),
-    Done(Ran),
+impl From<Refusal> for RunRefusal {
+    ghost from_gives = { λ why e. e ≡ RunRefusal.Image why };
+
+    fn from(why: Refusal) -> RunRefusal {
+        RunRefusal::Image(why)
+    }
+}
+
+impl From<regions::Refusal> for RunRefusal {
+    ghost from_gives = { λ why e. e ≡ RunRefusal.Table why };
+
+    fn from(why: regions::Refusal) -> RunRefusal {
+        RunRefusal::Table(why)
+    }
 }
 
 // Carries out the commands that wait, with at most allowance stores.
@@ -53,20 +63,14 @@ pub fn run(
     queue: &[u8],
     f: Features,
     allowance: u64,
-) -> RunAnswer
+) -> Result<Ran, RunRefusal>
     ensures { Gives (call f queue.now allowance (both kept.old table.old)) (both kept.new table.new) result }
 {
-    let checked = image::check(&*kept);
-    if let Checked::Refused(why) = checked {
-        return RunAnswer::Refused(RunRefusal::Image(why));
-    }
-    let second = regions::check(&*table);
-    if let regions::Checked::Refused(why) = second {
-        return RunAnswer::Refused(RunRefusal::Table(why));
-    }
+    image::check(&*kept)?;
+    regions::check(&*table)?;
     if !running::queue_good(queue, kept[0]) {
-        return RunAnswer::Refused(RunRefusal::BadQueue);
+        return Err(RunRefusal::BadQueue);
     }
     let ran = running::go(&mut *kept, &mut *table, queue, f, allowance);
-    RunAnswer::Done(ran)
+    Ok(ran)
 }

@@ -1,7 +1,7 @@
 -- Rows that are gone past in groups.
 -- Assumes nothing.
 use Rattle.std.proofs.Common.{◌≡◌, ℕ, ◌+◌, ◌-◌, ◌<◌, ◌≤◌, Bool, true, false, ◌&&◌, ◌||◌, sym, refl, ◌∙◌, ⊎_elim, arith}
-use Rattle.words.specs.declared.Found.TheVariants.{Nothing}
+use Rattle.std.specs.Prelude.{None}
 use Rattle.words.proofs.Search.{Searching, Wider, is_none, over_none}
 use Rattle.words.proofs.Truth.{less_or_not}
 use Rattle.screens.specs.Screens.{lowest_from, any_four, NoneOfEight, Skips}
@@ -83,5 +83,5 @@ narrowed q r n = record { most = omega arith; narrows = λ j h e. rw e; behind =
 pub both-are : (a b : Bool) {x : Bool} → a ≡ true → b ≡ x → (a && b) ≡ x
 both-are a b e g = rw e g
 
-pub nobody : (from to : ℕ) → from ≤ to → Nothing ≡ lowest_from (λ j. false) from to
+pub nobody : (from to : ℕ) → from ≤ to → None ≡ lowest_from (λ j. false) from to
 nobody from to h = sym (is_none (λ j. false) to from h (λ j a b. refl))

@@ -1,9 +1,8 @@
 -- Document 02, T-13: quick tests of rows, and the next row that one lets through. No theorem of
 -- `promises` and no contract of a call cites these: what a call did it says by the rule of the rows that it looked for.
 -- Assumes nothing.
-use Rattle.std.specs.Prelude.{◌≡◌, ℕ, ◌+◌, ◌-◌, ◌*◌, ◌/◌, ◌%◌, ◌^◌, ◌<◌, ◌≤◌, Bool, false, not, ◌&&◌, ◌||◌, List, [], ◌∷◌, length, ◌==◌, bit_and, bit_or, bit_xor, nat_lt}
+use Rattle.std.specs.Prelude.{◌≡◌, ℕ, ◌+◌, ◌-◌, ◌*◌, ◌/◌, ◌%◌, ◌^◌, ◌<◌, ◌≤◌, Bool, false, not, ◌&&◌, ◌||◌, List, [], ◌∷◌, length, ◌==◌, bit_and, bit_or, bit_xor, nat_lt, Option}
 use Rattle.words.specs.Search.{lowest}
-use Rattle.words.specs.declared.Found.{Found}
 use Rattle.rows.specs.declared.Row.{Row}
 use Rattle.rows.specs.Rows as rows
 use Rattle.image.specs.Image.{row_at}
@@ -57,13 +56,13 @@ passes (Covering mask value address) row = covering mask value address row
 passes (Reaching mask value last more) row = reaching mask value last more row
 
 -- the lowest row from one on, and below another
-abbrev pub lowest_from : (ℕ → Bool) → ℕ → ℕ → Found
+abbrev pub lowest_from : (ℕ → Bool) → ℕ → ℕ → Option ℕ
 lowest_from p from to = lowest p (to - from) from
 
 abbrev pub passes_at : Screen → List ℕ → ℕ → Bool
 passes_at s kept i = passes s (row_at kept i)
 
-abbrev pub next_of : Screen → List ℕ → ℕ → ℕ → Found
+abbrev pub next_of : Screen → List ℕ → ℕ → ℕ → Option ℕ
 next_of s kept from to = lowest_from (passes_at s kept) from to
 
 pub record Within (kept : List ℕ) (from to : ℕ) : Type 0 where

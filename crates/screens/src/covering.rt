@@ -5,7 +5,6 @@ ghost use Rattle.screens.specs.Screens.{near, nearby, covering, any_four, NoneOf
 
 use crate::{marked, used};
 use rows::Row;
-use words::Found;
 
 // As far behind the address, around 2^64, as a row that covers it is.
 fn near(row: Row, address: u64) -> bool
@@ -57,34 +56,34 @@ fn skip(kept: &[u64], address: u64, from: usize, to: usize) -> usize
     i
 }
 
-fn next_nearby(kept: &[u64], address: u64, from: usize, to: usize) -> Found
+fn next_nearby(kept: &[u64], address: u64, from: usize, to: usize) -> Option<usize>
     requires { Within kept.now from to }
     ensures { result ≡ lowest_from (λ j. nearby address (row_at kept.now j)) from to }
 {
     let mut i = skip(kept, address, from, to);
     while i < to {
         if nearby(image::row_at(kept, i), address) {
-            return Found::At(i);
+            return Some(i);
         }
         i += 1;
     }
-    Found::Nothing
+    None
 }
 
 // Of those, rows whose word 0 has the value under the mask.
-pub fn next(kept: &[u64], mask: u64, value: u64, address: u64, from: usize, to: usize) -> Found
+pub fn next(kept: &[u64], mask: u64, value: u64, address: u64, from: usize, to: usize) -> Option<usize>
     requires { Within kept.now from to }
     ensures { result ≡ lowest_from (λ j. covering mask value address (row_at kept.now j)) from to }
 {
     let mut i = from;
     while i < to {
-        let Found::At(row) = next_nearby(kept, address, i, to) else {
-            return Found::Nothing;
+        let Some(row) = next_nearby(kept, address, i, to) else {
+            return None;
         };
         if marked::test(image::row_at(kept, row), mask, value) {
-            return Found::At(row);
+            return Some(row);
         }
         i = row + 1;
     }
-    Found::Nothing
+    None
 }

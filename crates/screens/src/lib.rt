@@ -14,7 +14,6 @@ mod used;
 ghost use Rattle.std.specs.Prelude.{◌≡◌};
 ghost use Rattle.screens.specs.Screens.{ahead, next_of, Within};
 
-use words::Found;
 
 // What a row must be like.
 #[derive(Clone, Copy)]
@@ -41,12 +40,12 @@ fn ahead(a: u64, b: u64) -> u64
 }
 
 // The lowest row from `from` on, and below `to`, that a screen lets through.
-pub fn next(kept: &[u64], s: Screen, from: usize, to: usize) -> Found
+pub fn next(kept: &[u64], s: Screen, from: usize, to: usize) -> Option<usize>
     requires { Within kept.now from to }
     ensures { result ≡ next_of s kept.now from to }
 {
     match s {
-        Screen::Nobody => Found::Nothing,
+        Screen::Nobody => None,
         Screen::Marked(mask, value) => marked::next(kept, mask, value, from, to),
         Screen::Named(mask, value, other, rest) => named::next(
             kept, mask, value, other, rest, from, to,

@@ -4,7 +4,6 @@ ghost use Rattle.image.specs.Image.{row_at};
 ghost use Rattle.screens.specs.Screens.{marked, any_four, lowest_from, Within, Skips};
 
 use rows::Row;
-use words::Found;
 
 // Word 0 has the value under the mask.
 pub fn test(row: Row, mask: u64, value: u64) -> bool
@@ -40,16 +39,16 @@ fn skip(kept: &[u64], mask: u64, value: u64, from: usize, to: usize) -> usize
 }
 
 // The lowest row from `from` on, and below `to`, that is.
-pub fn next(kept: &[u64], mask: u64, value: u64, from: usize, to: usize) -> Found
+pub fn next(kept: &[u64], mask: u64, value: u64, from: usize, to: usize) -> Option<usize>
     requires { Within kept.now from to }
     ensures { result ≡ lowest_from (λ j. marked mask value (row_at kept.now j)) from to }
 {
     let mut i = skip(kept, mask, value, from, to);
     while i < to {
         if test(image::row_at(kept, i), mask, value) {
-            return Found::At(i);
+            return Some(i);
         }
         i += 1;
     }
-    Found::Nothing
+    None
 }

@@ -4,7 +4,6 @@ ghost use Rattle.image.specs.Image.{row_at};
 ghost use Rattle.screens.specs.Screens.{named, any_four, lowest_from, Within, Skips};
 
 use rows::Row;
-use words::Found;
 
 // Word 0 has a value under a mask, and so has word 1.
 fn test(row: Row, mask: u64, value: u64, other: u64, rest: u64) -> bool
@@ -48,16 +47,16 @@ pub fn next(
     rest: u64,
     from: usize,
     to: usize,
-) -> Found
+) -> Option<usize>
     requires { Within kept.now from to }
     ensures { result ≡ lowest_from (λ j. named mask value other rest (row_at kept.now j)) from to }
 {
     let mut i = skip(kept, mask, value, other, rest, from, to);
     while i < to {
         if test(image::row_at(kept, i), mask, value, other, rest) {
-            return Found::At(i);
+            return Some(i);
         }
         i += 1;
     }
-    Found::Nothing
+    None
 }

@@ -5,7 +5,6 @@ ghost use Rattle.screens.specs.Screens.{about, touched, reaching, any_four, None
 
 use crate::{marked, used};
 use rows::Row;
-use words::Found;
 
 // As far behind the last byte, around 2^64, as a row that shares one is.
 fn about(row: Row, last: u64, more: u64) -> bool
@@ -57,18 +56,18 @@ fn skip(kept: &[u64], last: u64, more: u64, from: usize, to: usize) -> usize
     i
 }
 
-fn next_touched(kept: &[u64], last: u64, more: u64, from: usize, to: usize) -> Found
+fn next_touched(kept: &[u64], last: u64, more: u64, from: usize, to: usize) -> Option<usize>
     requires { Within kept.now from to }
     ensures { result ≡ lowest_from (λ j. touched last more (row_at kept.now j)) from to }
 {
     let mut i = skip(kept, last, more, from, to);
     while i < to {
         if touched(image::row_at(kept, i), last, more) {
-            return Found::At(i);
+            return Some(i);
         }
         i += 1;
     }
-    Found::Nothing
+    None
 }
 
 // Of those, rows whose word 0 has the value under the mask.
@@ -80,19 +79,19 @@ pub fn next(
     more: u64,
     from: usize,
     to: usize,
-) -> Found
+) -> Option<usize>
     requires { Within kept.now from to }
     ensures { result ≡ lowest_from (λ j. reaching mask value last more (row_at kept.now j)) from to }
 {
     let mut i = from;
     while i < to {
-        let Found::At(row) = next_touched(kept, last, more, i, to) else {
-            return Found::Nothing;
+        let Some(row) = next_touched(kept, last, more, i, to) else {
+            return None;
         };
         if marked::test(image::row_at(kept, row), mask, value) {
-            return Found::At(row);
+            return Some(row);
         }
         i = row + 1;
     }
-    Found::Nothing
+    None
 }

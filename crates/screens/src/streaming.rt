@@ -5,7 +5,6 @@ ghost use Rattle.screens.specs.Screens.{streaming, any_four, lowest_from, Within
 
 use crate::places;
 use rows::Row;
-use words::Found;
 
 // A used row of an STE or a CD, whose stream has the value under the mask, but for as many low bits as the row has in its span.
 fn test(row: Row, mask: u64, value: u64) -> bool
@@ -42,16 +41,16 @@ fn skip(kept: &[u64], mask: u64, value: u64, from: usize, to: usize) -> usize
 }
 
 // The lowest row from `from` on, and below `to`, that is.
-pub fn next(kept: &[u64], mask: u64, value: u64, from: usize, to: usize) -> Found
+pub fn next(kept: &[u64], mask: u64, value: u64, from: usize, to: usize) -> Option<usize>
     requires { Within kept.now from to }
     ensures { result ≡ lowest_from (λ j. streaming mask value (row_at kept.now j)) from to }
 {
     let mut i = skip(kept, mask, value, from, to);
     while i < to {
         if test(image::row_at(kept, i), mask, value) {
-            return Found::At(i);
+            return Some(i);
         }
         i += 1;
     }
-    Found::Nothing
+    None
 }

@@ -12,8 +12,8 @@ fn main(rt: HostRuntime) -> io::Result<()> {
     let mut input = [0u8; 65536];
     let n = text::read_full(&mut rt.reader(), &mut input)?;
     match image_state::state_in(&input[..n]) {
-        StateAnswer::Refused(why) => refused(&mut out, why)?,
-        StateAnswer::Is(s) => told(&mut out, s)?,
+        Err(why) => refused(&mut out, why)?,
+        Ok(s) => told(&mut out, s)?,
     }
     out.flush()
 }

@@ -15,7 +15,7 @@ use Rattle.overrides.specs.Overrides as overrides
 use Rattle.rows.specs.declared.Row.{Row}
 use Rattle.rows.specs.declared.Parts.{Parts}
 use Rattle.rows.specs.Rows.{vmid, asid, config, new_mem_attr, parts_of, overrides_of, attributes_of}
-use Rattle.image.specs.declared.Checked.TheVariants.{Accepted}
+use Rattle.std.specs.Prelude.{Ok}
 use Rattle.image.specs.Image.{rows_in, check}
 use Rattle.image.proofs.Checks.{Accepts, rows_are, says}
 use Rattle.lookups.proofs.Accepted.{StageHit}
@@ -37,8 +37,8 @@ module _ {p : Parts} (row : Row) (e : p ≡ parts_of row) where
   asid-of = ap (λ (q : Parts). q.asid) e
 
 -- an accepted image has as many rows as its length says
-pub ready : (m : List ℕ) {n : ℕ} → check m ≡ Accepted n → Ready m
-ready m {n} e = e ∙ ap Accepted (sym (rows_are m n ((says m).accepted n e).size))
+pub ready : (m : List ℕ) {n : ℕ} → check m ≡ Ok n → Ready m
+ready m {n} e = e ∙ ap Ok (sym (rows_are m n ((says m).accepted n e).size))
 
 module _ (m : List ℕ) (r : Ready m) where
   pub accepted : Accepts m (rows_in m)

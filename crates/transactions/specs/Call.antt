@@ -1,6 +1,6 @@
 -- Document 01, A transaction; and When the unit says no: refusal 10.
 -- Assumes nothing.
-use Rattle.std.specs.Prelude.{not, List, ℕ}
+use Rattle.std.specs.Prelude.{not, List, ℕ, Err, Ok, Result}
 use Rattle.words.specs.Choice.{pick}
 use Rattle.attributes.specs.Formats.{well_formed}
 use Rattle.image.specs.Image as image
@@ -10,8 +10,6 @@ use Rattle.transactions.specs.declared.Outcome.{Outcome}
 use Rattle.transactions.specs.declared.Outcome.TheVariants.{Translated, Abort, Missed}
 use Rattle.transactions.specs.declared.TransactionRefusal.{TransactionRefusal}
 use Rattle.transactions.specs.declared.TransactionRefusal.TheVariants.{Image, IllFormed}
-use Rattle.transactions.specs.declared.TransactionAnswer.{TransactionAnswer}
-use Rattle.transactions.specs.declared.TransactionAnswer.TheVariants.{Refused as NotDone, Done}
 use Rattle.transactions.specs.Steps.{translation}
 
 -- the paper's number of each refusal
@@ -29,7 +27,7 @@ outcome_number (Missed Stage1) = 4
 outcome_number (Missed Stage2) = 5
 
 -- refusal 10 before anything is looked up
-unfoldable pub translate : List ℕ → Transaction → TransactionAnswer
+unfoldable pub translate : List ℕ → Transaction → Result Outcome TransactionRefusal
 translate m t =
-    image.checked (image.check m) (λ why. NotDone (Image why))
-    (λ n. pick (not (well_formed t.attributes)) (NotDone IllFormed) (Done (translation m t)))
+    image.checked (image.check m) (λ why. Err (Image why))
+    (λ n. pick (not (well_formed t.attributes)) (Err IllFormed) (Ok (translation m t)))

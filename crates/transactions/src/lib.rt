@@ -7,7 +7,6 @@ ghost use Rattle.std.specs.Prelude.{◌≡◌};
 ghost use Rattle.transactions.specs.Call.{translate};
 
 use attributes::Attributes;
-use image::Checked;
 
 // What comes in.
 #[derive(Clone, Copy)]
@@ -46,13 +45,6 @@ pub enum Miss {
     Stage2,
 }
 
-// What a stage answers.
-#[derive(Clone, Copy)]
-pub enum Staged {
-    Passed(Access),
-    Stopped(Miss),
-}
-
 #[derive(Clone, Copy)]
 pub enum Outcome {
     Translated(Output),
@@ -67,23 +59,21 @@ pub enum TransactionRefusal {
     IllFormed,
 }
 
-#[derive(Clone, Copy)]
-pub enum TransactionAnswer {
-    Refused(TransactionRefusal),
-    Done(Outcome),
+impl From<image::Refusal> for TransactionRefusal {
+    ghost from_gives = { λ why e. e ≡ TransactionRefusal.Image why };
+
+    fn from(why: image::Refusal) -> TransactionRefusal {
+        TransactionRefusal::Image(why)
+    }
 }
 
 // Translates on an accepted image. Nothing is looked up before the attributes are known to be well formed.
-pub fn translate(kept: &[u64], t: Transaction) -> TransactionAnswer
+pub fn translate(kept: &[u64], t: Transaction) -> Result<Outcome, TransactionRefusal>
     ensures { result ≡ translate kept.now t }
 {
-    match image::check(kept) {
-        Checked::Refused(why) => TransactionAnswer::Refused(TransactionRefusal::Image(why)),
-        Checked::Accepted(_) => {
-            if !attributes::well_formed(t.attributes) {
-                return TransactionAnswer::Refused(TransactionRefusal::IllFormed);
-            }
-            TransactionAnswer::Done(steps::translated(kept, t))
-        }
+    image::check(kept)?;
+    if !attributes::well_formed(t.attributes) {
+        return Err(TransactionRefusal::IllFormed);
     }
+    Ok(steps::translated(kept, t))
 }

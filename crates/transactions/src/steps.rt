@@ -2,8 +2,8 @@
 ghost use Rattle.std.specs.Prelude.{◌≡◌};
 ghost use Rattle.transactions.specs.Steps.{Movable, Ready, Formed, Typed, uses_stage1, uses_stage2, moved, overridden, stage1, stage2, output, translation};
 
-use crate::{Access, Miss, Outcome, Output, Staged, Transaction};
-use lookups::{Looked, Wanted};
+use crate::{Access, Miss, Outcome, Output, Transaction};
+use lookups::Wanted;
 use rows::Row;
 
 fn uses_stage1(config: u64) -> bool
@@ -35,40 +35,40 @@ fn overridden(ste: Row, t: Transaction) -> Access
     }
 }
 
-fn stage1(kept: &[u64], t: Transaction, ste: Row, a: Access) -> Staged
+fn stage1(kept: &[u64], t: Transaction, ste: Row, a: Access) -> Result<Access, Miss>
     requires { Ready kept.now }
     ensures { result ≡ stage1 kept.now t ste a }
 {
     let p = rows::parts_of(ste);
     if !uses_stage1(p.config) {
-        return Staged::Passed(a);
+        return Ok(a);
     }
-    let Looked::Hit(cd) = lookups::look(kept, Wanted::Cd(t.stream, t.substream)) else {
-        return Staged::Stopped(Miss::Cd);
+    let Some(cd) = lookups::look(kept, Wanted::Cd(t.stream, t.substream)) else {
+        return Err(Miss::Cd);
     };
     let c = rows::parts_of(cd);
-    let Looked::Hit(row) = lookups::look(kept, Wanted::Stage1(p.vmid, c.asid, a.address)) else {
-        return Staged::Stopped(Miss::Stage1);
+    let Some(row) = lookups::look(kept, Wanted::Stage1(p.vmid, c.asid, a.address)) else {
+        return Err(Miss::Stage1);
     };
-    Staged::Passed(Access {
+    Ok(Access {
         address: moved(row, a.address),
         attributes: rows::attributes_of(row),
     })
 }
 
-fn stage2(kept: &[u64], ste: Row, a: Access) -> Staged
+fn stage2(kept: &[u64], ste: Row, a: Access) -> Result<Access, Miss>
     requires { Ready kept.now × Typed a }
     ensures { result ≡ stage2 kept.now ste a }
 {
     let p = rows::parts_of(ste);
     if !uses_stage2(p.config) {
-        return Staged::Passed(a);
+        return Ok(a);
     }
-    let Looked::Hit(row) = lookups::look(kept, Wanted::Stage2(p.vmid, a.address)) else {
-        return Staged::Stopped(Miss::Stage2);
+    let Some(row) = lookups::look(kept, Wanted::Stage2(p.vmid, a.address)) else {
+        return Err(Miss::Stage2);
     };
     let b = rows::attributes_of(row);
-    Staged::Passed(Access {
+    Ok(Access {
         address: moved(row, a.address),
         attributes: combining::combined(a.attributes, b.memattr, b.sh),
     })
@@ -91,7 +91,7 @@ pub fn translated(kept: &[u64], t: Transaction) -> Outcome
     requires { Ready kept.now × Formed t }
     ensures { result ≡ translation kept.now t }
 {
-    let Looked::Hit(ste) = lookups::look(kept, Wanted::Ste(t.stream)) else {
+    let Some(ste) = lookups::look(kept, Wanted::Ste(t.stream)) else {
         return Outcome::Missed(Miss::Ste);
     };
     let p = rows::parts_of(ste);
@@ -99,10 +99,10 @@ pub fn translated(kept: &[u64], t: Transaction) -> Outcome
         return Outcome::Abort;
     }
     match stage1(kept, t, ste, overridden(ste, t)) {
-        Staged::Stopped(miss) => Outcome::Missed(miss),
-        Staged::Passed(a) => match stage2(kept, ste, a) {
-            Staged::Stopped(miss) => Outcome::Missed(miss),
-            Staged::Passed(b) => Outcome::Translated(output(ste, t, b)),
+        Err(miss) => Outcome::Missed(miss),
+        Ok(a) => match stage2(kept, ste, a) {
+            Err(miss) => Outcome::Missed(miss),
+            Ok(b) => Outcome::Translated(output(ste, t, b)),
         },
     }
 }

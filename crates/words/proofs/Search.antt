@@ -12,8 +12,7 @@ use lib.Dec.{eqb}
 use lib.ListN.{length}
 use borrow.Author.Tests.{eqb-true}
 use Rattle.words.specs.Choice.{pick}
-use Rattle.words.specs.declared.Found.{Found}
-use Rattle.words.specs.declared.Found.TheVariants.{At, Nothing}
+use Rattle.std.specs.Prelude.{None, Option, Some}
 use Rattle.words.specs.Search.{lowest, count, place_of}
 use Rattle.words.proofs.Truth.{decided, left, right, less_or_not}
 
@@ -28,7 +27,7 @@ module _ (p : ℕ → Bool) (n i : ℕ) where
   one_more : i < n → n - i ≡ suc (n - (i + 1))
   one_more h = omega arith
 
-  pub here : i < n → p i ≡ true → lowest p (n - i) i ≡ At i
+  pub here : i < n → p i ≡ true → lowest p (n - i) i ≡ Some i
   unfolding lowest
   here h e = rw (one_more h, e)
 
@@ -36,12 +35,12 @@ module _ (p : ℕ → Bool) (n i : ℕ) where
   unfolding lowest
   later h e = rw (one_more h, e, add-one i)
 
-  pub nowhere : n ≤ i → lowest p (n - i) i ≡ Nothing
+  pub nowhere : n ≤ i → lowest p (n - i) i ≡ None
   unfolding lowest
   nowhere h = let z : n - i ≡ 0 = omega arith in rw z
 
 module _ (p : ℕ → Bool) (n : ℕ) where
-  at-step : (i k : ℕ) → i < n → lowest p (n - i) i ≡ At k → (lowest p (n - (i + 1)) (i + 1) ≡ At k → Lowest p n (i + 1) k)
+  at-step : (i k : ℕ) → i < n → lowest p (n - i) i ≡ Some k → (lowest p (n - (i + 1)) (i + 1) ≡ Some k → Lowest p n (i + 1) k)
       → (t : Bool) → p i ≡ t → Lowest p n i k
   at-step i k h e more true q =
       let same : i ≡ k = cc (here p n i h q) in
@@ -56,30 +55,30 @@ module _ (p : ℕ → Bool) (n : ℕ) where
       }
 
   -- what is found is the lowest
-  found_by : (d i k : ℕ) → d + i ≡ n → lowest p (n - i) i ≡ At k → Lowest p n i k
+  found_by : (d i k : ℕ) → d + i ≡ n → lowest p (n - i) i ≡ Some k → Lowest p n i k
   found_by zero i k s e = let z : ◌≡◌ {A = ℕ} 0 1 = cc (nowhere p n i (omega arith)) in absurd (omega arith)
   found_by (suc d) i k s e = at-step i k (omega arith) e (λ g. found_by d (i + 1) k (omega arith) g) (p i) refl
 
-  pub found : (i k : ℕ) → i ≤ n → lowest p (n - i) i ≡ At k → Lowest p n i k
+  pub found : (i k : ℕ) → i ≤ n → lowest p (n - i) i ≡ Some k → Lowest p n i k
   found i k h e = found_by (n - i) i k (omega arith) e
 
-  none-step : (i : ℕ) → i < n → lowest p (n - i) i ≡ Nothing
-      → (lowest p (n - (i + 1)) (i + 1) ≡ Nothing → (j : ℕ) → i + 1 ≤ j → j < n → p j ≡ false)
+  none-step : (i : ℕ) → i < n → lowest p (n - i) i ≡ None
+      → (lowest p (n - (i + 1)) (i + 1) ≡ None → (j : ℕ) → i + 1 ≤ j → j < n → p j ≡ false)
       → (t : Bool) → p i ≡ t → (j : ℕ) → i ≤ j → j < n → p j ≡ false
   none-step i h e more true q j a b = let z : ◌≡◌ {A = ℕ} 0 1 = cc (here p n i h q) in absurd (omega arith)
   none-step i h e more false q j a b =
       ⊎_elim (λ s. rw (← s) q) (λ l. more (sym (later p n i h q) ∙ e) j (omega arith) b) (eq-or-lt_of_le a)
 
   -- where nothing is found, none passes
-  none_by : (d i : ℕ) → d + i ≡ n → lowest p (n - i) i ≡ Nothing → (j : ℕ) → i ≤ j → j < n → p j ≡ false
+  none_by : (d i : ℕ) → d + i ≡ n → lowest p (n - i) i ≡ None → (j : ℕ) → i ≤ j → j < n → p j ≡ false
   none_by zero i s e j a b = absurd (omega arith)
   none_by (suc d) i s e j a b = none-step i (omega arith) e (λ g k. none_by d (i + 1) (omega arith) g k) (p i) refl j a b
 
-  pub none : (i : ℕ) → i ≤ n → lowest p (n - i) i ≡ Nothing → (j : ℕ) → i ≤ j → j < n → p j ≡ false
+  pub none : (i : ℕ) → i ≤ n → lowest p (n - i) i ≡ None → (j : ℕ) → i ≤ j → j < n → p j ≡ false
   none i h e = none_by (n - i) i (omega arith) e
 
   -- and the other way round: where the lowest, or none, is known, so is what is found
-  is_found_by : (d i k : ℕ) → d + i ≡ n → Lowest p n i k → lowest p (n - i) i ≡ At k
+  is_found_by : (d i k : ℕ) → d + i ≡ n → Lowest p n i k → lowest p (n - i) i ≡ Some k
   is_found_by zero i k s l = absurd (omega (arith, l.from, l.below))
   is_found_by (suc d) i k s l =
       ⊎_elim (λ e. rw (← e) (here p n i (omega arith) (rw e l.passes)))
@@ -87,15 +86,15 @@ module _ (p : ℕ → Bool) (n : ℕ) where
       ∙ is_found_by d (i + 1) k (omega arith) (record { from = omega arith; below = l.below; passes = l.passes; first = λ j a b. l.first j (omega arith) b }))
       (eq-or-lt_of_le l.from)
 
-  pub found_lowest : (i k : ℕ) → Lowest p n i k → lowest p (n - i) i ≡ At k
+  pub found_lowest : (i k : ℕ) → Lowest p n i k → lowest p (n - i) i ≡ Some k
   found_lowest i k l = is_found_by (n - i) i k (omega (arith, l.from, l.below)) l
 
-  is_none_by : (d i : ℕ) → d + i ≡ n → ((j : ℕ) → i ≤ j → j < n → p j ≡ false) → lowest p (n - i) i ≡ Nothing
+  is_none_by : (d i : ℕ) → d + i ≡ n → ((j : ℕ) → i ≤ j → j < n → p j ≡ false) → lowest p (n - i) i ≡ None
   is_none_by zero i s f = nowhere p n i (omega arith)
   is_none_by (suc d) i s f =
       later p n i (omega arith) (f i (omega arith) (omega arith)) ∙ is_none_by d (i + 1) (omega arith) (λ j a b. f j (omega arith) b)
 
-  pub is_none : (i : ℕ) → i ≤ n → ((j : ℕ) → i ≤ j → j < n → p j ≡ false) → lowest p (n - i) i ≡ Nothing
+  pub is_none : (i : ℕ) → i ≤ n → ((j : ℕ) → i ≤ j → j < n → p j ≡ false) → lowest p (n - i) i ≡ None
   is_none i h f = is_none_by (n - i) i (omega arith) f
 
 -- a search from 0 on, as the laws above have it
@@ -103,25 +102,25 @@ pub from_zero : (p : ℕ → Bool) (n : ℕ) → lowest p n 0 ≡ lowest p (n - 
 from_zero p n = ap (λ (k : ℕ). lowest p k 0) (let e : n ≡ n - 0 = omega arith in e)
 
 -- a search under way: what it is to find, the rest from i on finds
-pub record Searching (p : ℕ → Bool) (n : ℕ) (target : Found) (i : ℕ) : Type 0 where
+pub record Searching (p : ℕ → Bool) (n : ℕ) (target : Option ℕ) (i : ℕ) : Type 0 where
   pub within : i ≤ n
   pub same : target ≡ lowest p (n - i) i
 
 pub from_start : (p : ℕ → Bool) (n : ℕ) → Searching p n (lowest p n 0) 0
 from_start p n = record { within = omega arith; same = from_zero p n }
 
-module _ {p : ℕ → Bool} {n : ℕ} {target : Found} {i : ℕ} (s : Searching p n target i) where
-  pub finds : i < n → p i ≡ true → At i ≡ target
+module _ {p : ℕ → Bool} {n : ℕ} {target : (Option ℕ)} {i : ℕ} (s : Searching p n target i) where
+  pub finds : i < n → p i ≡ true → Some i ≡ target
   finds h e = sym (s.same ∙ here p n i h e)
 
   pub passes : i < n → p i ≡ false → Searching p n target (i + 1)
   passes h e = record { within = omega arith; same = s.same ∙ later p n i h e }
 
-  pub finds-none : n ≤ i → Nothing ≡ target
+  pub finds-none : n ≤ i → None ≡ target
   finds-none h = sym (s.same ∙ nowhere p n i h)
 
 -- it passes over numbers of which none passes
-none_by_steps : {p : ℕ → Bool} {n : ℕ} {target : Found} (d i : ℕ) → Searching p n target i → i + d ≤ n → ((j : ℕ) → i ≤ j → j < i + d → p j ≡ false)
+none_by_steps : {p : ℕ → Bool} {n : ℕ} {target : (Option ℕ)} (d i : ℕ) → Searching p n target i → i + d ≤ n → ((j : ℕ) → i ≤ j → j < i + d → p j ≡ false)
     → Searching p n target (i + d)
 none_by_steps {p} {n} {target} zero i s h none = let e : i ≡ i + 0 = omega arith in subst (Searching p n target) e s
 none_by_steps {p} {n} {target} (suc d) i s h none =
@@ -129,13 +128,13 @@ none_by_steps {p} {n} {target} (suc d) i s h none =
     subst (Searching p n target) e
     (none_by_steps d (i + 1) (passes s (omega arith) (none i (omega arith) (omega arith))) (omega arith) (λ j a b. none j (omega arith) (omega arith)))
 
-pub over_none : {p : ℕ → Bool} {n : ℕ} {target : Found} {i : ℕ} (k : ℕ) → Searching p n target i → i ≤ k → k ≤ n → ((j : ℕ) → i ≤ j → j < k → p j ≡ false)
+pub over_none : {p : ℕ → Bool} {n : ℕ} {target : (Option ℕ)} {i : ℕ} (k : ℕ) → Searching p n target i → i ≤ k → k ≤ n → ((j : ℕ) → i ≤ j → j < k → p j ≡ false)
     → Searching p n target k
 over_none {p} {n} {target} {i} k s a b none =
     let e : i + (k - i) ≡ k = omega arith in
     subst (Searching p n target) e (none_by_steps (k - i) i s (omega arith) (λ j c d. none j c (omega arith)))
 
-pub none_left : {p : ℕ → Bool} {n : ℕ} {target : Found} {i : ℕ} → Searching p n target i → ((j : ℕ) → i ≤ j → j < n → p j ≡ false) → Nothing ≡ target
+pub none_left : {p : ℕ → Bool} {n : ℕ} {target : (Option ℕ)} {i : ℕ} → Searching p n target i → ((j : ℕ) → i ≤ j → j < n → p j ≡ false) → None ≡ target
 none_left {p} {n} {i = i} s none = sym (s.same ∙ is_none p n i s.within none)
 
 -- a wider test below m: what it does not let through does not pass, nor does anything from m on
@@ -145,14 +144,14 @@ pub record Wider (p q : ℕ → Bool) (m n : ℕ) : Type 0 where
   pub behind : (j : ℕ) → m ≤ j → j < n → p j ≡ false
 
 -- so a search may ask only what it lets through
-module _ {p q : ℕ → Bool} {m n : ℕ} {target : Found} {i : ℕ} (w : Wider p q m n) (s : Searching p n target i) where
-  pub spent : m ≤ i → Nothing ≡ target
+module _ {p q : ℕ → Bool} {m n : ℕ} {target : (Option ℕ)} {i : ℕ} (w : Wider p q m n) (s : Searching p n target i) where
+  pub spent : m ≤ i → None ≡ target
   spent h = none_left s (λ j a b. w.behind j (omega arith) b)
 
-  pub none_let : i ≤ m → lowest q (m - i) i ≡ Nothing → Nothing ≡ target
+  pub none_let : i ≤ m → lowest q (m - i) i ≡ None → None ≡ target
   none_let h e = none_left s (λ j a b. ⊎_elim (λ l. w.narrows j l (none q m i h e j a l)) (λ g. w.behind j g b) (less_or_not j m))
 
-  module _ {k : ℕ} (h : i ≤ m) (e : lowest q (m - i) i ≡ At k) where
+  module _ {k : ℕ} (h : i ≤ m) (e : lowest q (m - i) i ≡ Some k) where
     let_through : Lowest q m i k
     let_through = found q m i k h e
 
@@ -168,7 +167,7 @@ module _ {p q : ℕ → Bool} {m n : ℕ} {target : Found} {i : ℕ} (w : Wider 
     let_here : Searching p n target k
     let_here = over_none k s let_from (omega (arith, let_below, w.most)) (λ j a b. w.narrows j (omega (arith, b, let_below)) (let_through.first j a b))
 
-    pub let_finds : p k ≡ true → At k ≡ target
+    pub let_finds : p k ≡ true → Some k ≡ target
     let_finds t = finds let_here (omega (arith, let_below, w.most)) t
 
     pub let_passes : p k ≡ false → Searching p n target (k + 1)

@@ -1,14 +1,12 @@
 -- The lowest number that passes a test, and how many do.
 -- Assumes nothing.
-use Rattle.std.specs.Prelude.{ℕ, zero, suc, ◌+◌, Bool, List, [], ◌∷◌, eqb}
-use Rattle.words.specs.declared.Found.{Found}
-use Rattle.words.specs.declared.Found.TheVariants.{At, Nothing}
+use Rattle.std.specs.Prelude.{ℕ, zero, suc, ◌+◌, Bool, List, [], ◌∷◌, eqb, None, Option, Some}
 use Rattle.words.specs.Choice.{pick}
 
 -- the lowest of the n numbers from i on that passes
-unfoldable pub lowest : (ℕ → Bool) → ℕ → ℕ → Found
-lowest p zero i = Nothing
-lowest p (suc n) i = pick (p i) (At i) (lowest p n (suc i))
+unfoldable pub lowest : (ℕ → Bool) → ℕ → ℕ → Option ℕ
+lowest p zero i = None
+lowest p (suc n) i = pick (p i) (Some i) (lowest p n (suc i))
 
 -- how many of the numbers below n pass
 unfoldable pub count : (ℕ → Bool) → ℕ → ℕ

@@ -1,17 +1,10 @@
-// Words of 64 bits: powers of two, parts, spans, and words in bytes; and what a search answers.
+// Words of 64 bits: powers of two, parts, spans, and words in bytes.
 #![tactic(auto)]
 
 ghost use Rattle.std.specs.Prelude.{◌≡◌, [], ◌∷◌, ◌+◌, ◌-◌, ◌^◌, ◌≤◌, ◌<◌, length};
 ghost use Rattle.words.specs.Parts.{part, put};
 ghost use Rattle.words.specs.Spans.{overlap};
 ghost use Rattle.words.specs.Bytes.{little_endian, word_at, with_word};
-
-// What a search finds.
-#[derive(Clone, Copy)]
-pub enum Found {
-    At(usize),
-    Nothing,
-}
 
 // The n-th power of two.
 pub fn power(n: u64) -> u64

@@ -29,11 +29,9 @@ use Rattle.commands.proofs.Reasons.{tells, tells_legal, feature-absent, is-legal
 use Rattle.writer.specs.declared.Coded.{Coded}
 use Rattle.writer.specs.declared.Fault.{Fault}
 use Rattle.writer.specs.declared.Fault.TheVariants.{Missing, Unfit}
-use Rattle.writer.specs.declared.Verdict.{Verdict}
-use Rattle.writer.specs.declared.Verdict.TheVariants.{Fit, Faulty}
+use Rattle.std.specs.Prelude.{Err, Ok, Result}
 use Rattle.writer.specs.declared.WriteRefusal.{WriteRefusal}
 use Rattle.writer.specs.declared.WriteRefusal.TheVariants.{BadSlot, Bad}
-use Rattle.writer.specs.declared.WriteAnswer.TheVariants.{Refused, Written}
 use Rattle.writer.specs.Layouts.{wide, layout_of, width_at, read_at, fields_of}
 use Rattle.writer.specs.Writing.{asked, encoded, split, read_back, is_absent, lacks, fits, judged, slot_size, with_command, by_verdict, write}
 use Rattle.writer.proofs.ByCode.{whole_split}
@@ -108,55 +106,55 @@ module _ (f : Features) (d : List ℕ) where
     back = ap (λ (y : Coded). decode f y.lo y.hi) (sym coded) ∙ sym read
 
     module _ (m : Command) (w : List ℕ) (b : Bool) (is : r ≡ Legal m) (asks : w ≡ fields_of m) (same : b ≡ all wide (agree w d)) where
-      pub tells-fit : b ≡ true → Fit x ≡ judged f d
+      pub tells-fit : b ≡ true → Ok x ≡ judged f d
       unfolding judged lacks
       tells-fit e =
           let all_fit : fits d ≡ true = sym (same-fits m (back ∙ is)) ∙ rw asks at (sym same ∙ e) in
           rw (back, is, all_fit, coded) (no-matter (ltb (asked d 0) (2 ^ width code_bits)))
         where
-          no-matter : (a : Bool) → Fit (split (encoded d)) ≡ pick (a && false) (Faulty Missing) (Fit (split (encoded d)))
+          no-matter : (a : Bool) → Ok (split (encoded d)) ≡ pick (a && false) (Err Missing) (Ok (split (encoded d)))
           no-matter true = refl
           no-matter false = refl
 
-      pub tells-wide : b ≡ false → Faulty Unfit ≡ judged f d
+      pub tells-wide : b ≡ false → Err Unfit ≡ judged f d
       unfolding judged lacks
       tells-wide e =
           let none : fits d ≡ false = sym (same-fits m (back ∙ is)) ∙ rw asks at (sym same ∙ e) in
           rw (back, is, none) (no-matter (ltb (asked d 0) (2 ^ width code_bits)))
         where
-          no-matter : (a : Bool) → Faulty Unfit ≡ pick (a && false) (Faulty Missing) (Faulty Unfit)
+          no-matter : (a : Bool) → Err Unfit ≡ pick (a && false) (Err Missing) (Err Unfit)
           no-matter true = refl
           no-matter false = refl
 
     module _ (why : Reason) (t : Bool) (is : r ≡ Illegal why) (absent : t ≡ is_absent (Illegal why)) where
-      pub tells-missing : (ltb (asked d 0) (2 ^ width code_bits) && t) ≡ true → Faulty Missing ≡ judged f d
+      pub tells-missing : (ltb (asked d 0) (2 ^ width code_bits) && t) ≡ true → Err Missing ≡ judged f d
       unfolding judged lacks
       tells-missing e = rw (back, is, rw absent at e)
 
-      pub tells-illegal : (ltb (asked d 0) (2 ^ width code_bits) && t) ≡ false → Faulty Unfit ≡ judged f d
+      pub tells-illegal : (ltb (asked d 0) (2 ^ width code_bits) && t) ≡ false → Err Unfit ≡ judged f d
       unfolding judged lacks
       tells-illegal e = rw (back, is, rw absent at e) (no-matter (fits d))
         where
-          no-matter : (a : Bool) → Faulty Unfit ≡ pick (not a || true) (Faulty Unfit) (Fit (split (encoded d)))
+          no-matter : (a : Bool) → Err Unfit ≡ pick (not a || true) (Err Unfit) (Ok (split (encoded d)))
           no-matter true = refl
           no-matter false = refl
 
 -- writing, case by case
 module _ (f : Features) (d slot : List ℕ) where
-  pub no_slot : (length slot ≡ slot_size → ⊥) → Gives (write f d slot) slot (Refused BadSlot)
+  pub no_slot : (length slot ≡ slot_size → ⊥) → Gives (write f d slot) slot (Err BadSlot)
   unfolding write
   no_slot n = gives (rw (ne_eqb (length slot) slot_size n))
 
-  module _ (v : Verdict) (said : v ≡ judged f d) (long : length slot ≡ slot_size) where
-    pub no-command : (why : Fault) → v ≡ Faulty why → Gives (write f d slot) slot (Refused (Bad why))
+  module _ (v : Result Coded Fault) (said : v ≡ judged f d) (long : length slot ≡ slot_size) where
+    pub no-command : (why : Fault) → v ≡ Err why → Gives (write f d slot) slot (Err (Bad why))
     unfolding write
     no-command why e = gives (rw (eq-eqb (length slot) slot_size long, ← said, e))
 
-    pub writes : (x : Coded) (l : List ℕ) → v ≡ Fit x → l ≡ with_command slot 0 x → Gives (write f d slot) l Written
+    pub writes : (x : Coded) (l : List ℕ) → v ≡ Ok x → l ≡ with_command slot 0 x → Gives (write f d slot) l (Ok tt)
     unfolding write
     writes x l e leaves = gives (rw (eq-eqb (length slot) slot_size long, ← said, e, leaves))
 
-pub writing : (f : Features) (d slot : List ℕ) (x : Coded) → length slot ≡ slot_size → judged f d ≡ Fit x → write f d slot ≡ with Written (with_command slot 0 x)
+pub writing : (f : Features) (d slot : List ℕ) (x : Coded) → length slot ≡ slot_size → judged f d ≡ Ok x → write f d slot ≡ with (Ok tt) (with_command slot 0 x)
 unfolding write
 writing f d slot x long e = rw (eq-eqb (length slot) slot_size long, e)
 
@@ -164,29 +162,29 @@ writing f d slot x long e = rw (eq-eqb (length slot) slot_size long, e)
 pub record Wrote (f : Features) (d slot : List ℕ) : Type 0 where
   pub long : length slot ≡ slot_size
   pub coded : Coded
-  pub fit : judged f d ≡ Fit coded
+  pub fit : judged f d ≡ Ok coded
   pub leaves : (write f d slot).memory ≡ with_command slot 0 coded
 
-pub wrote : (f : Features) (d slot : List ℕ) → (write f d slot).answer ≡ Written → Wrote f d slot
+pub wrote : (f : Features) (d slot : List ℕ) → (write f d slot).answer ≡ Ok tt → Wrote f d slot
 unfolding write
 wrote f d slot e = by_tests (eqb (length slot) slot_size) (judged f d) refl refl e
   where
-    by_tests : (b : Bool) (v : Verdict) → eqb (length slot) slot_size ≡ b → judged f d ≡ v
-        → (pick (not b) (with (Refused BadSlot) slot) (by_verdict slot v)).answer ≡ Written → Wrote f d slot
+    by_tests : (b : Bool) (v : Result Coded Fault) → eqb (length slot) slot_size ≡ b → judged f d ≡ v
+        → (pick (not b) (with (Err BadSlot) slot) (by_verdict slot v)).answer ≡ Ok tt → Wrote f d slot
     by_tests false v p q w = let z : ◌≡◌ {A = ℕ} 0 1 = cc in absurd (omega arith)
-    by_tests true (Faulty why) p q w = let z : ◌≡◌ {A = ℕ} 0 1 = cc in absurd (omega arith)
-    by_tests true (Fit x) p q w = record { long = eqb-true (length slot) slot_size p; coded = x; fit = q; leaves = rw (p, q) }
+    by_tests true (Err why) p q w = let z : ◌≡◌ {A = ℕ} 0 1 = cc in absurd (omega arith)
+    by_tests true (Ok x) p q w = record { long = eqb-true (length slot) slot_size p; coded = x; fit = q; leaves = rw (p, q) }
 
 -- on a refusal nothing is written
-pub refusal_leaves : (f : Features) (d slot : List ℕ) (why : WriteRefusal) → (write f d slot).answer ≡ Refused why → (write f d slot).memory ≡ slot
+pub refusal_leaves : (f : Features) (d slot : List ℕ) (why : WriteRefusal) → (write f d slot).answer ≡ Err why → (write f d slot).memory ≡ slot
 unfolding write
 refusal_leaves f d slot why e = by_tests (eqb (length slot) slot_size) (judged f d) e
   where
-    by_tests : (b : Bool) (v : Verdict) → (pick (not b) (with (Refused BadSlot) slot) (by_verdict slot v)).answer ≡ Refused why
-        → (pick (not b) (with (Refused BadSlot) slot) (by_verdict slot v)).memory ≡ slot
+    by_tests : (b : Bool) (v : Result Coded Fault) → (pick (not b) (with (Err BadSlot) slot) (by_verdict slot v)).answer ≡ Err why
+        → (pick (not b) (with (Err BadSlot) slot) (by_verdict slot v)).memory ≡ slot
     by_tests false v w = refl
-    by_tests true (Faulty fault) w = refl
-    by_tests true (Fit x) w = let z : ◌≡◌ {A = ℕ} 0 1 = cc in absurd (omega arith)
+    by_tests true (Err fault) w = refl
+    by_tests true (Ok x) w = let z : ◌≡◌ {A = ℕ} 0 1 = cc in absurd (omega arith)
 
 -- 20 goes by the code alone: it is known, and what it needs is not there
 absent_told : (r : Decoded) → is_absent r ≡ tells FeatureAbsent r

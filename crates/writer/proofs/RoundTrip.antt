@@ -31,7 +31,7 @@ use Rattle.commands.specs.Decoding.{code_of, place_in, known_code, feature_prese
 use Rattle.commands.proofs.Legality.{clean_means}
 use Rattle.writer.specs.declared.Coded.{Coded}
 use Rattle.writer.specs.declared.Fault.TheVariants.{Missing, Unfit}
-use Rattle.writer.specs.declared.Verdict.TheVariants.{Fit, Faulty}
+use Rattle.std.specs.Prelude.{Err, Ok}
 use Rattle.writer.specs.Layouts.{wide, layout_of, ranges, width_at, read_at, fields_of}
 use Rattle.writer.specs.RoundTrip.{ReadsBack, is_blind}
 use Rattle.writer.specs.Writing.{asked, entries, encoded, split, read_back, lacks, fits, judged}
@@ -82,23 +82,23 @@ record Fits (f : Features) (d : List ℕ) (x : Coded) : Type 0 where
   fit : fits d ≡ true
   is_coded : x ≡ split (encoded d)
 
-fits_means : (f : Features) (d : List ℕ) (x : Coded) → judged f d ≡ Fit x → Fits f d x
+fits_means : (f : Features) (d : List ℕ) (x : Coded) → judged f d ≡ Ok x → Fits f d x
 unfolding judged
 fits_means f d x e = by_tests (lacks f d) (fits d) (read_back f d) refl refl e
   where
     by_tests : (a b : Bool) (r : Decoded) → fits d ≡ b → read_back f d ≡ r
-        → pick a (Faulty Missing) (pick (not b || is_illegal r) (Faulty Unfit) (Fit (split (encoded d)))) ≡ Fit x → Fits f d x
+        → pick a (Err Missing) (pick (not b || is_illegal r) (Err Unfit) (Ok (split (encoded d)))) ≡ Ok x → Fits f d x
     by_tests true b r p q j = let z : ◌≡◌ {A = ℕ} 0 1 = cc in absurd (omega arith)
     by_tests false false r p q j = let z : ◌≡◌ {A = ℕ} 0 1 = cc in absurd (omega arith)
     by_tests false true (Illegal why) p q j = let z : ◌≡◌ {A = ℕ} 0 1 = cc in absurd (omega arith)
     by_tests false true (Legal m) p q j = record { command = m; reads = q; fit = p; is_coded = cc }
 
 -- what is written is what the definition encodes
-pub coded_as : (f : Features) (d : List ℕ) (x : Coded) → judged f d ≡ Fit x → x ≡ split (encoded d)
+pub coded_as : (f : Features) (d : List ℕ) (x : Coded) → judged f d ≡ Ok x → x ≡ split (encoded d)
 coded_as f d x e = (fits_means f d x e).is_coded
 
 -- reading back: the same command, with the same fields
-pub reads_back : (f : Features) (d : List ℕ) (x : Coded) → length d ≡ wide → judged f d ≡ Fit x → ReadsBack f d x
+pub reads_back : (f : Features) (d : List ℕ) (x : Coded) → length d ≡ wide → judged f d ≡ Ok x → ReadsBack f d x
 unfolding read_back
 reads_back f d x long e =
     let t = fits_means f d x e in
@@ -180,19 +180,19 @@ module _ (f : Features) (lo hi : ℕ) (m : Command) (e : decode f lo hi ≡ Lega
           neither true = refl
           neither false = refl
 
-  fit_of : read_back f d ≡ Legal m → judged f d ≡ Fit (split (encoded d))
+  fit_of : read_back f d ≡ Legal m → judged f d ≡ Ok (split (encoded d))
   unfolding judged lacks
   fit_of r = rw (r, all_fit) (no-matter (ltb (asked d 0) (2 ^ width code_bits)))
     where
-      no-matter : (a : Bool) → pick (a && false) (Faulty Missing) (Fit (split (encoded d))) ≡ Fit (split (encoded d))
+      no-matter : (a : Bool) → pick (a && false) (Err Missing) (Ok (split (encoded d))) ≡ Ok (split (encoded d))
       no-matter true = refl
       no-matter false = refl
 
-  pub writes-back : is_blind (code_of (joined lo hi)) ≡ false → judged f (fields_of m) ≡ Fit (record { lo = lo; hi = hi })
+  pub writes-back : is_blind (code_of (joined lo hi)) ≡ false → judged f (fields_of m) ≡ Ok (record { lo = lo; hi = hi })
   unfolding read_back
   writes-back seen =
       let is : split (encoded d) ≡ record { lo = lo; hi = hi } = ap split (same-command seen) ∙ split-whole lo hi p in
-      fit_of (ap (λ (y : Coded). decode f y.lo y.hi) is ∙ e) ∙ ap Fit is
+      fit_of (ap (λ (y : Coded). decode f y.lo y.hi) is ∙ e) ∙ ap Ok is
 
   -- CS of a legal 46 is not 3
   good-cs : code_of c ≡ 0x46 → get cs_bits c < 3
@@ -221,9 +221,9 @@ module _ (f : Features) (lo hi : ℕ) (m : Command) (e : decode f lo hi ≡ Lega
       (either (eqb (code_of c) 0x01 || eqb (code_of c) 0x02) (eqb (code_of c) 0x46) b)
 
   -- every legal command is written from what was read of it
-  pub writes_again : judged f (fields_of m) ≡ Fit (split (encoded (fields_of m)))
+  pub writes_again : judged f (fields_of m) ≡ Ok (split (encoded (fields_of m)))
   writes_again = by_code (is_blind (code_of c)) refl
     where
-      by_code : (b : Bool) → is_blind (code_of c) ≡ b → judged f d ≡ Fit (split (encoded d))
+      by_code : (b : Bool) → is_blind (code_of c) ≡ b → judged f d ≡ Ok (split (encoded d))
       by_code true s = fit_of (reads-blind s)
-      by_code false s = writes-back s ∙ ap Fit (sym (ap split (same-command s) ∙ split-whole lo hi p))
+      by_code false s = writes-back s ∙ ap Ok (sym (ap split (same-command s) ∙ split-whole lo hi p))

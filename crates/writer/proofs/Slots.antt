@@ -18,7 +18,7 @@ use Rattle.commands.specs.declared.Command.{Command}
 use Rattle.commands.specs.declared.Decoded.TheVariants.{Legal}
 use Rattle.commands.specs.Decoding.{code_of, decode, decode_at}
 use Rattle.writer.specs.declared.Coded.{Coded}
-use Rattle.writer.specs.declared.WriteAnswer.TheVariants.{Written}
+use Rattle.std.specs.Prelude.{Ok}
 use Rattle.writer.specs.Layouts.{wide, fields_of}
 use Rattle.writer.specs.RoundTrip.{SlotReadsBack, WritesAgain, is_blind}
 use Rattle.writer.specs.Writing.{encoded, split, slot_size, with_command, write}
@@ -107,7 +107,7 @@ module _ (bs slot : List ℕ) (all : Bytes bs) (long : length bs ≡ slot_size) 
       ∙ ap₂ (λ (y z : List ℕ). y ++ z) first-half second-half ∙ take-append-drop 8 bs
 
 -- reading back, of bytes: what lies in the slot is the command that was asked for
-pub slot-reads_back : (f : Features) (d slot : List ℕ) → length d ≡ wide → (write f d slot).answer ≡ Written → SlotReadsBack f d (write f d slot).memory
+pub slot-reads_back : (f : Features) (d slot : List ℕ) → length d ≡ wide → (write f d slot).answer ≡ Ok tt → SlotReadsBack f d (write f d slot).memory
 slot-reads_back f d slot long e =
     let w = wrote f d slot e in
     let r = reads_back f d w.coded long w.fit in
@@ -120,13 +120,13 @@ slot-reads_back f d slot long e =
 
 -- writing back, of bytes: sixteen of a legal command whose bits are all looked at
 pub slot_writes_back : (f : Features) (bs slot : List ℕ) (m : Command) → Bytes bs → length bs ≡ slot_size → length slot ≡ slot_size → decode_at f bs 0 ≡ Legal m
-    → is_blind (code_of (joined (word_at bs 0) (word_at bs 8))) ≡ false → write f (fields_of m) slot ≡ with Written bs
+    → is_blind (code_of (joined (word_at bs 0) (word_at bs 8))) ≡ false → write f (fields_of m) slot ≡ with (Ok tt) bs
 unfolding decode_at
 slot_writes_back f bs slot m all long room e seen =
     let low = word_lt bs 0 all (omega arith) in
     let high = word_lt bs 8 all (omega arith) in
     writing f (fields_of m) slot (record { lo = word_at bs 0; hi = word_at bs 8 }) room (writes-back f (word_at bs 0) (word_at bs 8) m e low high seen)
-    ∙ ap (with Written) (same_bytes bs slot all long room)
+    ∙ ap (with (Ok tt)) (same_bytes bs slot all long room)
 
 -- and of every legal command: it is written, each bit that a field of its code has as it was, and every other 0
 pub slot_writes_again : (f : Features) (bs slot : List ℕ) (m : Command) → Bytes bs → length bs ≡ slot_size → length slot ≡ slot_size → decode_at f bs 0 ≡ Legal m → WritesAgain f bs slot m

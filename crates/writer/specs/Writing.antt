@@ -1,7 +1,7 @@
 -- Document 02, T-10: what is written for a command that is asked for, and refusals 19, 20 and 21. Whether it is legal is what decoding
 -- says of it.
 -- Assumes nothing.
-use Rattle.std.specs.Prelude.{Bool, true, false, not, ◌&&◌, ◌||◌, List, map, ℕ, ◌+◌, ◌/◌, ◌%◌, ◌^◌, eqb, ltb, length, get_or}
+use Rattle.std.specs.Prelude.{Bool, true, false, not, ◌&&◌, ◌||◌, List, map, ℕ, ◌+◌, ◌/◌, ◌%◌, ◌^◌, eqb, ltb, length, get_or, Err, Ok, Result, ⊤}
 use Rattle.words.specs.Bytes.{with_word}
 use Rattle.words.specs.Choice.{pick}
 use Rattle.words.specs.Outcomes.{Outcome, with}
@@ -16,12 +16,8 @@ use Rattle.commands.specs.Decoding.{decode, is_illegal}
 use Rattle.writer.specs.declared.Coded.{Coded}
 use Rattle.writer.specs.declared.Fault.{Fault}
 use Rattle.writer.specs.declared.Fault.TheVariants.{Missing, Unfit}
-use Rattle.writer.specs.declared.Verdict.{Verdict}
-use Rattle.writer.specs.declared.Verdict.TheVariants.{Fit, Faulty}
 use Rattle.writer.specs.declared.WriteRefusal.{WriteRefusal}
 use Rattle.writer.specs.declared.WriteRefusal.TheVariants.{BadSlot, Bad}
-use Rattle.writer.specs.declared.WriteAnswer.{WriteAnswer}
-use Rattle.writer.specs.declared.WriteAnswer.TheVariants.{Refused, Written}
 use Rattle.writer.specs.Layouts.{wide, Named, number_of, bits_of, layout_of, width_at}
 
 -- the word of a field, of the sixteen in d
@@ -65,11 +61,11 @@ abbrev pub unfit : Features → List ℕ → Bool
 unfit f d = not (fits d) || is_illegal (read_back f d)
 
 -- in their order
-unfoldable pub judged : Features → List ℕ → Verdict
+unfoldable pub judged : Features → List ℕ → Result Coded Fault
 judged f d =
-    pick (lacks f d) (Faulty Missing)
-    (pick (unfit f d) (Faulty Unfit)
-    (Fit (split (encoded d))))
+    pick (lacks f d) (Err Missing)
+    (pick (unfit f d) (Err Unfit)
+    (Ok (split (encoded d))))
 
 -- the paper's numbers
 abbrev pub fault_number : Fault → ℕ
@@ -87,9 +83,9 @@ slot_size = 16
 unfoldable pub with_command : List ℕ → ℕ → Coded → List ℕ
 with_command bytes at c = with_word (with_word bytes at c.lo) (at + 8) c.hi
 
-abbrev pub by_verdict : List ℕ → Verdict → Outcome (List ℕ) WriteAnswer
-by_verdict slot (Faulty why) = with (Refused (Bad why)) slot
-by_verdict slot (Fit c) = with Written (with_command slot 0 c)
+abbrev pub by_verdict : List ℕ → Result Coded Fault → Outcome (List ℕ) (Result ⊤ WriteRefusal)
+by_verdict slot (Err why) = with (Err (Bad why)) slot
+by_verdict slot (Ok c) = with (Ok tt) (with_command slot 0 c)
 
-unfoldable pub write : Features → List ℕ → List ℕ → Outcome (List ℕ) WriteAnswer
-write f d slot = pick (not (eqb (length slot) slot_size)) (with (Refused BadSlot) slot) (by_verdict slot (judged f d))
+unfoldable pub write : Features → List ℕ → List ℕ → Outcome (List ℕ) (Result ⊤ WriteRefusal)
+write f d slot = pick (not (eqb (length slot) slot_size)) (with (Err BadSlot) slot) (by_verdict slot (judged f d))

@@ -32,12 +32,6 @@ pub enum Fault {
     Unfit,
 }
 
-#[derive(Clone, Copy)]
-pub enum Verdict {
-    Fit(Coded),
-    Faulty(Fault),
-}
-
 // Why writing is refused: the slot's length, or the command.
 #[derive(Clone, Copy)]
 pub enum WriteRefusal {
@@ -45,14 +39,16 @@ pub enum WriteRefusal {
     Bad(Fault),
 }
 
-#[derive(Clone, Copy)]
-pub enum WriteAnswer {
-    Refused(WriteRefusal),
-    Written,
+impl From<Fault> for WriteRefusal {
+    ghost from_gives = { λ why e. e ≡ WriteRefusal.Bad why };
+
+    fn from(why: Fault) -> WriteRefusal {
+        WriteRefusal::Bad(why)
+    }
 }
 
 // What is written for d, or what is wrong with it. A field fits exactly if it is read back as it was asked for.
-pub fn judge(f: Features, d: &[u64]) -> Verdict
+pub fn judge(f: Features, d: &[u64]) -> Result<Coded, Fault>
     requires { length d.now ≡ wide }
     ensures { result ≡ judged f d.now }
 {
@@ -60,15 +56,15 @@ pub fn judge(f: Features, d: &[u64]) -> Verdict
     match commands::decode(f, c.lo, c.hi) {
         Decoded::Legal(command) => {
             if fields::same(fields::fields_of(command), d) {
-                return Verdict::Fit(c);
+                return Ok(c);
             }
-            Verdict::Faulty(Fault::Unfit)
+            Err(Fault::Unfit)
         }
         Decoded::Illegal(why) => {
             if (d[0] < 256) & absent(why) {
-                return Verdict::Faulty(Fault::Missing);
+                return Err(Fault::Missing);
             }
-            Verdict::Faulty(Fault::Unfit)
+            Err(Fault::Unfit)
         }
     }
 }
@@ -94,17 +90,13 @@ pub fn store_at(bytes: &mut [u8], at: usize, c: Coded)
 }
 
 // Writes the command that d asks for into a slot.
-pub fn write(slot: &mut [u8], d: &[u64; 16], f: Features) -> WriteAnswer
+pub fn write(slot: &mut [u8], d: &[u64; 16], f: Features) -> Result<(), WriteRefusal>
     ensures { Gives (write f d.now slot.old) slot.new result }
 {
     if slot.len() != SLOT {
-        return WriteAnswer::Refused(WriteRefusal::BadSlot);
+        return Err(WriteRefusal::BadSlot);
     }
-    match judge(f, d) {
-        Verdict::Fit(c) => {
-            store_at(&mut *slot, 0, c);
-            WriteAnswer::Written
-        }
-        Verdict::Faulty(why) => WriteAnswer::Refused(WriteRefusal::Bad(why)),
-    }
+    let c = judge(f, d)?;
+    store_at(&mut *slot, 0, c);
+    Ok(())
 }

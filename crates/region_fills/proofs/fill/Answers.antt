@@ -2,35 +2,34 @@
 -- Assumes nothing.
 use mathlib.Core.Path.{◌≡◌, sym, ◌∙◌}
 use Rattle.words.proofs.Outcomes.{gives}
-use Rattle.image.specs.declared.Checked.TheVariants.{Accepted as Image-as-Accepted}
+use Rattle.std.specs.Prelude.{Ok}
 use Rattle.image.specs.Image as image
-use Rattle.regions.specs.declared.Checked.TheVariants.{Accepted}
 use Rattle.regions.specs.Table.{check}
 use Rattle.region_fills.proofs.Cases.{whole, fill-image, fill-table, fill-goes-on, as_given}
 use Rattle.region_fills.proofs.fill.Goals as goal
 
 pub fill_row-requires : goal.fill_row-requires
 fill_row-requires c =
-    let accepted : check c.args.table.now ≡ Accepted c.in-Accepted-check.n =
-    sym c.check-in-Accepted.ensures ∙ c.in-Accepted-check.is in
+    let accepted : check c.args.table.now ≡ Ok c.in-Ok-check.n =
+    sym c.check-in-Ok.ensures ∙ c.in-Ok-check.is in
     whole _ _ accepted
 
-pub returns-in-Refused : goal.returns-in-Refused
-returns-in-Refused c = gives (fill-image _ _ _ _ _ _ (sym c.check.ensures ∙ c.in-Refused.is))
+pub returns-in-Err : goal.returns-in-Err
+returns-in-Err c = gives (fill-image _ _ _ _ _ _ (sym c.check.ensures ∙ c.in-Err.is))
 
-pub returns-in-Refused-check : goal.returns-in-Refused-check
-returns-in-Refused-check c =
-    let kept-accepted : image.check c.args.kept.now ≡ Image-as-Accepted c.in-Accepted.field-0 =
-    sym c.check.ensures ∙ c.in-Accepted.is in
+pub returns-in-Err-check : goal.returns-in-Err-check
+returns-in-Err-check c =
+    let kept-accepted : image.check c.args.kept.now ≡ Ok c.in-Ok.field-0 =
+    sym c.check.ensures ∙ c.in-Ok.is in
     gives
     (fill-table _ _ _ _ _ _ kept-accepted _
-    (sym c.check-in-Accepted.ensures ∙ c.in-Refused-check.is))
+    (sym c.check-in-Ok.ensures ∙ c.in-Err-check.is))
 
-pub returns-in-Accepted-check : goal.returns-in-Accepted-check
-returns-in-Accepted-check c =
-    let kept-accepted : image.check c.args.kept.now ≡ Image-as-Accepted c.in-Accepted.field-0 =
-    sym c.check.ensures ∙ c.in-Accepted.is in
-    let accepted : check c.args.table.now ≡ Accepted c.in-Accepted-check.n =
-    sym c.check-in-Accepted.ensures ∙ c.in-Accepted-check.is in
+pub returns-in-Ok-check : goal.returns-in-Ok-check
+returns-in-Ok-check c =
+    let kept-accepted : image.check c.args.kept.now ≡ Ok c.in-Ok.field-0 =
+    sym c.check.ensures ∙ c.in-Ok.is in
+    let accepted : check c.args.table.now ≡ Ok c.in-Ok-check.n =
+    sym c.check-in-Ok.ensures ∙ c.in-Ok-check.is in
     let told = c in
     as_given (fill-goes-on _ _ _ _ _ _ kept-accepted _ accepted) c.fill_row.ensures

@@ -4,7 +4,7 @@ use mathlib.Core.Path.{◌≡◌, sym, ap, ◌∙◌}
 use mathlib.Core.Bool.{true}
 use Rattle.rows.specs.Rows.{vmid, asid, config}
 use Rattle.lookups.specs.declared.Wanted.TheVariants.{Cd, Stage1}
-use Rattle.lookups.specs.declared.Looked.TheVariants.{Hit}
+use Rattle.std.specs.Prelude.{Some}
 use Rattle.lookups.specs.Lookups.{look}
 use Rattle.lookups.proofs.Accepted.{stage1-hit}
 use Rattle.transactions.specs.Steps.{uses_stage1, stage1}
@@ -38,10 +38,10 @@ unfolding stage1
 returns-in_default-look c =
     let asks : c.uses_stage1.result ≡ uses_stage1 (config c.args.ste) =
     c.uses_stage1.ensures ∙ ap uses_stage1 (config-of _ c.parts_of-p.ensures) in
-    let cd : look c.args.kept.now (Cd c.args.t.stream c.args.t.substream) ≡ Hit c.in-Hit.cd =
-    sym c.look.ensures ∙ c.in-Hit.is in
+    let cd : look c.args.kept.now (Cd c.args.t.stream c.args.t.substream) ≡ Some c.in-Some.cd =
+    sym c.look.ensures ∙ c.in-Some.is in
     let asked : c.look-2.result
-    ≡ look c.args.kept.now (Stage1 (vmid c.args.ste) (asid c.in-Hit.cd) c.args.a.address) =
+    ≡ look c.args.kept.now (Stage1 (vmid c.args.ste) (asid c.in-Some.cd) c.args.a.address) =
     rw (← vmid-of _ c.parts_of-p.ensures, ← asid-of _ c.parts_of-c.ensures) c.look-2.ensures in
     let uses : uses_stage1 (config c.args.ste) ≡ true =
     sym asks ∙ c.if-not-uses_stage1.false in
@@ -51,11 +51,11 @@ returns-in_default-look c =
 pub moved-requires : goal.moved-requires
 moved-requires c =
     let asked : c.look-2.result
-    ≡ look c.args.kept.now (Stage1 (vmid c.args.ste) (asid c.in-Hit.cd) c.args.a.address) =
+    ≡ look c.args.kept.now (Stage1 (vmid c.args.ste) (asid c.in-Some.cd) c.args.a.address) =
     rw (← vmid-of _ c.parts_of-p.ensures, ← asid-of _ c.parts_of-c.ensures) c.look-2.ensures in
-    let row : look c.args.kept.now (Stage1 (vmid c.args.ste) (asid c.in-Hit.cd) c.args.a.address)
-    ≡ Hit c.in-Hit-look.row =
-    sym asked ∙ c.in-Hit-look.is in
+    let row : look c.args.kept.now (Stage1 (vmid c.args.ste) (asid c.in-Some.cd) c.args.a.address)
+    ≡ Some c.in-Some-look.row =
+    sym asked ∙ c.in-Some-look.is in
     let m = c.args.kept.now in
     movable (stage1-hit m _ (accepted m c.requires) _ _ _ _ row)
 
@@ -64,14 +64,14 @@ unfolding stage1
 returns c =
     let asks : c.uses_stage1.result ≡ uses_stage1 (config c.args.ste) =
     c.uses_stage1.ensures ∙ ap uses_stage1 (config-of _ c.parts_of-p.ensures) in
-    let cd : look c.args.kept.now (Cd c.args.t.stream c.args.t.substream) ≡ Hit c.in-Hit.cd =
-    sym c.look.ensures ∙ c.in-Hit.is in
+    let cd : look c.args.kept.now (Cd c.args.t.stream c.args.t.substream) ≡ Some c.in-Some.cd =
+    sym c.look.ensures ∙ c.in-Some.is in
     let asked : c.look-2.result
-    ≡ look c.args.kept.now (Stage1 (vmid c.args.ste) (asid c.in-Hit.cd) c.args.a.address) =
+    ≡ look c.args.kept.now (Stage1 (vmid c.args.ste) (asid c.in-Some.cd) c.args.a.address) =
     rw (← vmid-of _ c.parts_of-p.ensures, ← asid-of _ c.parts_of-c.ensures) c.look-2.ensures in
-    let row : look c.args.kept.now (Stage1 (vmid c.args.ste) (asid c.in-Hit.cd) c.args.a.address)
-    ≡ Hit c.in-Hit-look.row =
-    sym asked ∙ c.in-Hit-look.is in
+    let row : look c.args.kept.now (Stage1 (vmid c.args.ste) (asid c.in-Some.cd) c.args.a.address)
+    ≡ Some c.in-Some-look.row =
+    sym asked ∙ c.in-Some-look.is in
     let uses : uses_stage1 (config c.args.ste) ≡ true =
     sym asks ∙ c.if-not-uses_stage1.false in
     rw (uses, cd, row, c.attributes_of.ensures, c.moved.ensures)

@@ -4,7 +4,7 @@ use mathlib.Core.Path.{◌≡◌, sym, ap, ◌∙◌}
 use mathlib.Core.Bool.{true}
 use Rattle.rows.specs.Rows.{vmid, config}
 use Rattle.lookups.specs.declared.Wanted.TheVariants.{Stage2}
-use Rattle.lookups.specs.declared.Looked.TheVariants.{Hit}
+use Rattle.std.specs.Prelude.{Some}
 use Rattle.lookups.specs.Lookups.{look}
 use Rattle.lookups.proofs.Accepted.{StageHit, stage2-hit}
 use Rattle.transactions.specs.Steps.{uses_stage2, stage2}
@@ -36,9 +36,9 @@ pub moved-requires : goal.moved-requires
 moved-requires c =
     let asked : c.look.result ≡ look c.args.kept.now (Stage2 (vmid c.args.ste) c.args.a.address) =
     rw (← vmid-of _ c.parts_of-p.ensures) c.look.ensures in
-    let row : look c.args.kept.now (Stage2 (vmid c.args.ste) c.args.a.address) ≡ Hit c.in-Hit.row =
-    sym asked ∙ c.in-Hit.is in
-    let hit : StageHit c.in-Hit.row c.args.a.address =
+    let row : look c.args.kept.now (Stage2 (vmid c.args.ste) c.args.a.address) ≡ Some c.in-Some.row =
+    sym asked ∙ c.in-Some.is in
+    let hit : StageHit c.in-Some.row c.args.a.address =
     let m = c.args.kept.now in stage2-hit m _ (accepted m c.requires.0) _ _ _ row in
     movable hit
 
@@ -46,9 +46,9 @@ pub combined-requires : goal.combined-requires
 combined-requires c =
     let asked : c.look.result ≡ look c.args.kept.now (Stage2 (vmid c.args.ste) c.args.a.address) =
     rw (← vmid-of _ c.parts_of-p.ensures) c.look.ensures in
-    let row : look c.args.kept.now (Stage2 (vmid c.args.ste) c.args.a.address) ≡ Hit c.in-Hit.row =
-    sym asked ∙ c.in-Hit.is in
-    let hit : StageHit c.in-Hit.row c.args.a.address =
+    let row : look c.args.kept.now (Stage2 (vmid c.args.ste) c.args.a.address) ≡ Some c.in-Some.row =
+    sym asked ∙ c.in-Some.is in
+    let hit : StageHit c.in-Some.row c.args.a.address =
     let m = c.args.kept.now in stage2-hit m _ (accepted m c.requires.0) _ _ _ row in
     (c.requires.1, rw c.attributes_of-b.ensures (hit_proper hit).typed)
 
@@ -61,6 +61,6 @@ returns c =
     sym asks ∙ c.if-not-uses_stage2.false in
     let asked : c.look.result ≡ look c.args.kept.now (Stage2 (vmid c.args.ste) c.args.a.address) =
     rw (← vmid-of _ c.parts_of-p.ensures) c.look.ensures in
-    let row : look c.args.kept.now (Stage2 (vmid c.args.ste) c.args.a.address) ≡ Hit c.in-Hit.row =
-    sym asked ∙ c.in-Hit.is in
+    let row : look c.args.kept.now (Stage2 (vmid c.args.ste) c.args.a.address) ≡ Some c.in-Some.row =
+    sym asked ∙ c.in-Some.is in
     rw (uses, row, c.combined.ensures, c.moved.ensures, c.attributes_of-b.ensures)
