@@ -7,8 +7,8 @@ use Rattle.batch_writes.proofs.first_bad.Goals as goal
 pub judge_at-requires : goal.judge_at-requires
 judge_at-requires c = begun c.args.commands.now c.loop-i.i (omega (arith, c.requires))
 
-pub returns-in-Faulty : goal.returns-in-Faulty
-returns-in-Faulty c = search finds
+pub returns-in-Err : goal.returns-in-Err
+returns-in-Err c = search finds
 
 pub loop-i-preserved : goal.loop-i-preserved
 loop-i-preserved c = search continues

@@ -3,8 +3,8 @@
 use Rattle.batch_writes.proofs.Cases.{some_words, refuses-image, refuses-queue, long-queue, refuses-command, refuses-room, few, all_there, rings-last}
 use Rattle.batch_writes.proofs.write_batch.Goals as goal
 
-pub returns-in-Refused : goal.returns-in-Refused
-returns-in-Refused c = search refuses-image
+pub returns-in-Err : goal.returns-in-Err
+returns-in-Err c = search refuses-image
 
 pub bounds-kept-0 : goal.bounds-kept-0
 bounds-kept-0 c = search some_words

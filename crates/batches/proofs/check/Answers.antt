@@ -3,11 +3,11 @@
 use Rattle.batches.proofs.Calling.{refuses-image, refuses-table, whole-memory, refuses-batch, continues}
 use Rattle.batches.proofs.check.Goals as goal
 
-pub returns-in-Refused : goal.returns-in-Refused
-returns-in-Refused c = search refuses-image
+pub returns-in-Err : goal.returns-in-Err
+returns-in-Err c = search refuses-image
 
-pub returns-in-Refused-second : goal.returns-in-Refused-second
-returns-in-Refused-second c = search refuses-table
+pub returns-in-Err-second : goal.returns-in-Err-second
+returns-in-Err-second c = search refuses-table
 
 pub returns-then-not-is_whole : goal.returns-then-not-is_whole
 returns-then-not-is_whole c = search refuses-batch

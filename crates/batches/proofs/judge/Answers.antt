@@ -3,14 +3,14 @@
 use Rattle.batches.proofs.Calling.{original-unfit, proposed-unfit, rows-differ, rows_same}
 use Rattle.batches.proofs.judge.Goals as goal
 
-pub returns-in-At : goal.returns-in-At
-returns-in-At c = search original-unfit
+pub returns-in-Some : goal.returns-in-Some
+returns-in-Some c = search original-unfit
 
-pub returns-in-At-second : goal.returns-in-At-second
-returns-in-At-second c = search proposed-unfit
+pub returns-in-Some-second : goal.returns-in-Some-second
+returns-in-Some-second c = search proposed-unfit
 
-pub returns-in-At-lowest_apart : goal.returns-in-At-lowest_apart
-returns-in-At-lowest_apart c = search rows-differ
+pub returns-in-Some-lowest_apart : goal.returns-in-Some-lowest_apart
+returns-in-Some-lowest_apart c = search rows-differ
 
-pub returns-in-Nothing : goal.returns-in-Nothing
-returns-in-Nothing c = search rows_same
+pub returns-in-None : goal.returns-in-None
+returns-in-None c = search rows_same

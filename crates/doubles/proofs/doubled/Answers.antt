@@ -25,9 +25,9 @@ pub collides_at-requires : goal.collides_at-requires
 collides_at-requires c =
     let screening : Wider (collides_at c.args.kept.now c.args.words) (passes_at c.screen_of-s.result c.args.kept.now) c.args.n c.args.n =
     wider _ _ _ _ (λ k. omega (arith, c.type_inv.kept k)) c.screen_of-s.ensures in
-    let row : Asked c.loop-i.invariant c.in-At.row =
+    let row : Asked c.loop-i.invariant c.in-Some.row =
     let at = c in
-    asked screening at.loop-i.invariant at.loop-i-test.true (sym c.next.ensures ∙ c.in-At.is) in
+    asked screening at.loop-i.invariant at.loop-i-test.true (sym c.next.ensures ∙ c.in-Some.is) in
     let r = row in
     omega (arith, r.below, c.requires)
 
@@ -36,36 +36,36 @@ unfolding doubled
 returns-then-collides_at c =
     let screening : Wider (collides_at c.args.kept.now c.args.words) (passes_at c.screen_of-s.result c.args.kept.now) c.args.n c.args.n =
     wider _ _ _ _ (λ k. omega (arith, c.type_inv.kept k)) c.screen_of-s.ensures in
-    let row : Asked c.loop-i.invariant c.in-At.row =
+    let row : Asked c.loop-i.invariant c.in-Some.row =
     let at = c in
-    asked screening at.loop-i.invariant at.loop-i-test.true (sym c.next.ensures ∙ c.in-At.is) in
+    asked screening at.loop-i.invariant at.loop-i-test.true (sym c.next.ensures ∙ c.in-Some.is) in
     ap is_found (row.finds (sym c.collides_at.ensures ∙ c.if-collides_at.true))
 
 pub overflow_add-i : goal.overflow_add-i
 overflow_add-i c =
     let screening : Wider (collides_at c.args.kept.now c.args.words) (passes_at c.screen_of-s.result c.args.kept.now) c.args.n c.args.n =
     wider _ _ _ _ (λ k. omega (arith, c.type_inv.kept k)) c.screen_of-s.ensures in
-    let row : Asked c.loop-i.invariant c.in-At.row =
+    let row : Asked c.loop-i.invariant c.in-Some.row =
     let at = c in
-    asked screening at.loop-i.invariant at.loop-i-test.true (sym c.next.ensures ∙ c.in-At.is) in
+    asked screening at.loop-i.invariant at.loop-i-test.true (sym c.next.ensures ∙ c.in-Some.is) in
     let r = row in search rules
 
 pub loop-i-smaller : goal.loop-i-smaller
 loop-i-smaller c =
     let screening : Wider (collides_at c.args.kept.now c.args.words) (passes_at c.screen_of-s.result c.args.kept.now) c.args.n c.args.n =
     wider _ _ _ _ (λ k. omega (arith, c.type_inv.kept k)) c.screen_of-s.ensures in
-    let row : Asked c.loop-i.invariant c.in-At.row =
+    let row : Asked c.loop-i.invariant c.in-Some.row =
     let at = c in
-    asked screening at.loop-i.invariant at.loop-i-test.true (sym c.next.ensures ∙ c.in-At.is) in
+    asked screening at.loop-i.invariant at.loop-i-test.true (sym c.next.ensures ∙ c.in-Some.is) in
     let r = row in omega (arith, r.from, r.below)
 
 pub loop-i-preserved : goal.loop-i-preserved
 loop-i-preserved c =
     let screening : Wider (collides_at c.args.kept.now c.args.words) (passes_at c.screen_of-s.result c.args.kept.now) c.args.n c.args.n =
     wider _ _ _ _ (λ k. omega (arith, c.type_inv.kept k)) c.screen_of-s.ensures in
-    let row : Asked c.loop-i.invariant c.in-At.row =
+    let row : Asked c.loop-i.invariant c.in-Some.row =
     let at = c in
-    asked screening at.loop-i.invariant at.loop-i-test.true (sym c.next.ensures ∙ c.in-At.is) in
+    asked screening at.loop-i.invariant at.loop-i-test.true (sym c.next.ensures ∙ c.in-Some.is) in
     row.continues (sym c.collides_at.ensures ∙ c.if-collides_at.false)
 
 pub returns : goal.returns

@@ -21,7 +21,7 @@ row_at-requires c =
       s.requires.0.room,
       c.lesser-end.ensures,
       let_below (screened s.args.f s.args.c (both s.args.kept.now s.args.table.now) s.args.from s.args.to _ s.requires.1 c.lesser-end.ensures) c.loop-i.invariant (omega (arith, c.loop-i-test.true))
-          (rw c.screen_of-s.ensures at (sym c.next.ensures ∙ c.in-At.is)),
+          (rw c.screen_of-s.ensures at (sym c.next.ensures ∙ c.in-Some.is)),
     )
 
 pub returns-then-in_scope : goal.returns-then-in_scope
@@ -29,9 +29,9 @@ returns-then-in_scope c =
     let s = c in
     let w = (screened s.args.f s.args.c (both s.args.kept.now s.args.table.now) s.args.from s.args.to _ s.requires.1 c.lesser-end.ensures) in
     let_finds w c.loop-i.invariant (omega (arith, c.loop-i-test.true))
-    (rw c.screen_of-s.ensures at (sym c.next.ensures ∙ c.in-At.is))
+    (rw c.screen_of-s.ensures at (sym c.next.ensures ∙ c.in-Some.is))
     (in_first s.args.f s.args.c (both s.args.kept.now s.args.table.now) s.args.from s.args.to _ _ c.lesser-end.ensures (let_below w c.loop-i.invariant (omega (arith, c.loop-i-test.true))
-    (rw c.screen_of-s.ensures at (sym c.next.ensures ∙ c.in-At.is)))
+    (rw c.screen_of-s.ensures at (sym c.next.ensures ∙ c.in-Some.is)))
     ∙ (rw c.row_at.ensures at (sym c.in_scope.ensures ∙ c.if-in_scope.true)))
 
 pub overflow_add-i : goal.overflow_add-i
@@ -43,7 +43,7 @@ overflow_add-i c =
         s.ranges.to,
         c.lesser-end.ensures,
         let_below (screened s.args.f s.args.c (both s.args.kept.now s.args.table.now) s.args.from s.args.to _ s.requires.1 c.lesser-end.ensures) c.loop-i.invariant (omega (arith, c.loop-i-test.true))
-            (rw c.screen_of-s.ensures at (sym c.next.ensures ∙ c.in-At.is)),
+            (rw c.screen_of-s.ensures at (sym c.next.ensures ∙ c.in-Some.is)),
       );
     }
 
@@ -55,9 +55,9 @@ loop-i-smaller c =
       arith,
       c.lesser-end.ensures,
       let_below w c.loop-i.invariant (omega (arith, c.loop-i-test.true))
-          (rw c.screen_of-s.ensures at (sym c.next.ensures ∙ c.in-At.is)),
+          (rw c.screen_of-s.ensures at (sym c.next.ensures ∙ c.in-Some.is)),
       let_from w c.loop-i.invariant (omega (arith, c.loop-i-test.true))
-          (rw c.screen_of-s.ensures at (sym c.next.ensures ∙ c.in-At.is)),
+          (rw c.screen_of-s.ensures at (sym c.next.ensures ∙ c.in-Some.is)),
     )
 
 pub loop-i-preserved : goal.loop-i-preserved
@@ -65,9 +65,9 @@ loop-i-preserved c =
     let s = c in
     let w = (screened s.args.f s.args.c (both s.args.kept.now s.args.table.now) s.args.from s.args.to _ s.requires.1 c.lesser-end.ensures) in
     let_passes w c.loop-i.invariant (omega (arith, c.loop-i-test.true))
-    (rw c.screen_of-s.ensures at (sym c.next.ensures ∙ c.in-At.is))
+    (rw c.screen_of-s.ensures at (sym c.next.ensures ∙ c.in-Some.is))
     (in_first s.args.f s.args.c (both s.args.kept.now s.args.table.now) s.args.from s.args.to _ _ c.lesser-end.ensures (let_below w c.loop-i.invariant (omega (arith, c.loop-i-test.true))
-    (rw c.screen_of-s.ensures at (sym c.next.ensures ∙ c.in-At.is)))
+    (rw c.screen_of-s.ensures at (sym c.next.ensures ∙ c.in-Some.is)))
     ∙ (rw c.row_at.ensures at (sym c.in_scope.ensures ∙ c.if-in_scope.false)))
 
 pub returns : goal.returns

@@ -27,22 +27,22 @@ returns-then-not-well_formed c =
     let told = c.well_formed-2.ensures in
     sym (bad_control _ good (sym told ∙ c.if-not-well_formed.true))
 
-pub returns-in-At : goal.returns-in-At
-returns-in-At c =
+pub returns-in-Some : goal.returns-in-Some
+returns-in-Some c =
     let good : length_good c.args.kept.now ≡ true =
     let m = c.args.kept.now in
     of_long m (rows_in m) (record { words = c.if-kept-n.false; some = c.if-n-lt1.false; few = c.if-n-gt-MAX_ROWS.false }) in
     let continues : let m = c.args.kept.now in check m ≡ by_rows (rows_in m) c.lowest_bad.result =
     let told = c.well_formed-2.ensures in
     rows_case _ good (sym told ∙ c.if-not-well_formed.false) ∙ ap (by_rows _) (sym c.lowest_bad.ensures) in
-    sym (continues ∙ ap (by_rows _) c.in-At.is)
+    sym (continues ∙ ap (by_rows _) c.in-Some.is)
 
-pub returns-in-Nothing : goal.returns-in-Nothing
-returns-in-Nothing c =
+pub returns-in-None : goal.returns-in-None
+returns-in-None c =
     let good : length_good c.args.kept.now ≡ true =
     let m = c.args.kept.now in
     of_long m (rows_in m) (record { words = c.if-kept-n.false; some = c.if-n-lt1.false; few = c.if-n-gt-MAX_ROWS.false }) in
     let continues : let m = c.args.kept.now in check m ≡ by_rows (rows_in m) c.lowest_bad.result =
     let told = c.well_formed-2.ensures in
     rows_case _ good (sym told ∙ c.if-not-well_formed.false) ∙ ap (by_rows _) (sym c.lowest_bad.ensures) in
-    sym (continues ∙ ap (by_rows _) c.in-Nothing.is)
+    sym (continues ∙ ap (by_rows _) c.in-None.is)

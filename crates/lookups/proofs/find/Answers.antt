@@ -21,42 +21,42 @@ returns-in_default c =
 
 pub answers_at-requires : goal.answers_at-requires
 answers_at-requires c =
-    let row : Asked c.loop-i.invariant c.in-At.row =
+    let row : Asked c.loop-i.invariant c.in-Some.row =
     let at = c in
     asked (wider _ _ _ at.screen_of-s.ensures) at.loop-i.invariant at.loop-i-test.true
-    (sym c.next.ensures ∙ c.in-At.is) in
+    (sym c.next.ensures ∙ c.in-Some.is) in
     let r = row in omega (arith, r.below, c.requires)
 
 pub returns-then-answers_at : goal.returns-then-answers_at
 returns-then-answers_at c =
-    let row : Asked c.loop-i.invariant c.in-At.row =
+    let row : Asked c.loop-i.invariant c.in-Some.row =
     let at = c in
     asked (wider _ _ _ at.screen_of-s.ensures) at.loop-i.invariant at.loop-i-test.true
-    (sym c.next.ensures ∙ c.in-At.is) in
+    (sym c.next.ensures ∙ c.in-Some.is) in
     row.finds (sym c.answers_at.ensures ∙ c.if-answers_at.true)
 
 pub overflow_add-i : goal.overflow_add-i
 overflow_add-i c =
-    let row : Asked c.loop-i.invariant c.in-At.row =
+    let row : Asked c.loop-i.invariant c.in-Some.row =
     let at = c in
     asked (wider _ _ _ at.screen_of-s.ensures) at.loop-i.invariant at.loop-i-test.true
-    (sym c.next.ensures ∙ c.in-At.is) in
+    (sym c.next.ensures ∙ c.in-Some.is) in
     let r = row in search rules
 
 pub loop-i-smaller : goal.loop-i-smaller
 loop-i-smaller c =
-    let row : Asked c.loop-i.invariant c.in-At.row =
+    let row : Asked c.loop-i.invariant c.in-Some.row =
     let at = c in
     asked (wider _ _ _ at.screen_of-s.ensures) at.loop-i.invariant at.loop-i-test.true
-    (sym c.next.ensures ∙ c.in-At.is) in
+    (sym c.next.ensures ∙ c.in-Some.is) in
     let r = row in omega (arith, r.from, r.below)
 
 pub loop-i-preserved : goal.loop-i-preserved
 loop-i-preserved c =
-    let row : Asked c.loop-i.invariant c.in-At.row =
+    let row : Asked c.loop-i.invariant c.in-Some.row =
     let at = c in
     asked (wider _ _ _ at.screen_of-s.ensures) at.loop-i.invariant at.loop-i-test.true
-    (sym c.next.ensures ∙ c.in-At.is) in
+    (sym c.next.ensures ∙ c.in-Some.is) in
     row.continues (sym c.answers_at.ensures ∙ c.if-answers_at.false)
 
 pub returns : goal.returns

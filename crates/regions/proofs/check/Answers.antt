@@ -18,18 +18,18 @@ pub returns-then-n-gt-MAX_ROWS : goal.returns-then-n-gt-MAX_ROWS
 unfolding check length_good
 returns-then-n-gt-MAX_ROWS c = rw (eq-eqb _ _ c.if-table-n.false, le-leb _ _ c.if-n-lt1.false, lt-leb _ _ c.if-n-gt-MAX_ROWS.true)
 
-pub returns-in-At : goal.returns-in-At
-returns-in-At c =
+pub returns-in-Some : goal.returns-in-Some
+returns-in-Some c =
     let continues : let t = c.args.table.now in check t ≡ by_rows (rows_in t) c.lowest_bad.result =
     let t = c.args.table.now in
     rows_case t (of_long t (rows_in t) (record { words = c.if-table-n.false; some = c.if-n-lt1.false; few = c.if-n-gt-MAX_ROWS.false }))
     ∙ ap (by_rows _) (sym c.lowest_bad.ensures) in
-    sym (continues ∙ ap (by_rows _) c.in-At.is)
+    sym (continues ∙ ap (by_rows _) c.in-Some.is)
 
-pub returns-in-Nothing : goal.returns-in-Nothing
-returns-in-Nothing c =
+pub returns-in-None : goal.returns-in-None
+returns-in-None c =
     let continues : let t = c.args.table.now in check t ≡ by_rows (rows_in t) c.lowest_bad.result =
     let t = c.args.table.now in
     rows_case t (of_long t (rows_in t) (record { words = c.if-table-n.false; some = c.if-n-lt1.false; few = c.if-n-gt-MAX_ROWS.false }))
     ∙ ap (by_rows _) (sym c.lowest_bad.ensures) in
-    sym (continues ∙ ap (by_rows _) c.in-Nothing.is)
+    sym (continues ∙ ap (by_rows _) c.in-None.is)

@@ -7,11 +7,11 @@ use Rattle.memory.specs.Memory.{both}
 use Rattle.runs.proofs.Calling.{refuses-image, refuses-table, refuses-queue, does, some_words, fits-run}
 use Rattle.runs.proofs.run.Goals as goal
 
-pub returns-in-Refused : goal.returns-in-Refused
-returns-in-Refused c = search refuses-image
+pub returns-in-Err : goal.returns-in-Err
+returns-in-Err c = search refuses-image
 
-pub returns-in-Refused-second : goal.returns-in-Refused-second
-returns-in-Refused-second c = search refuses-table
+pub returns-in-Err-second : goal.returns-in-Err-second
+returns-in-Err-second c = search refuses-table
 
 pub bounds-kept-0 : goal.bounds-kept-0
 bounds-kept-0 c =

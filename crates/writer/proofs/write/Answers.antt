@@ -6,8 +6,8 @@ use Rattle.writer.proofs.write.Goals as goal
 pub returns-then-slot-ne-SLOT : goal.returns-then-slot-ne-SLOT
 returns-then-slot-ne-SLOT c = search no_slot
 
-pub returns-in-Fit : goal.returns-in-Fit
-returns-in-Fit c = search writes
+pub returns-in-Ok : goal.returns-in-Ok
+returns-in-Ok c = search writes
 
-pub returns-in-Faulty : goal.returns-in-Faulty
-returns-in-Faulty c = search no-command
+pub returns-in-Err : goal.returns-in-Err
+returns-in-Err c = search no-command

@@ -19,31 +19,31 @@ returns-in_default c =
 pub row_at-requires : goal.row_at-requires
 row_at-requires c =
     let s = c in
-    omega (arith, s.requires.there, let_below (wider s.args.kept.now s.args.mask s.args.value s.args.last s.args.more s.args.to) c.loop-i.invariant (omega (arith, c.loop-i-test.true)) (sym c.next_touched.ensures ∙ c.in-At.is))
+    omega (arith, s.requires.there, let_below (wider s.args.kept.now s.args.mask s.args.value s.args.last s.args.more s.args.to) c.loop-i.invariant (omega (arith, c.loop-i-test.true)) (sym c.next_touched.ensures ∙ c.in-Some.is))
 
 pub returns-then-test : goal.returns-then-test
 returns-then-test c =
     let s = c in
-    let_finds (wider s.args.kept.now s.args.mask s.args.value s.args.last s.args.more s.args.to) c.loop-i.invariant (omega (arith, c.loop-i-test.true)) (sym c.next_touched.ensures ∙ c.in-At.is)
-    (both-are _ _ (let_is (wider s.args.kept.now s.args.mask s.args.value s.args.last s.args.more s.args.to) c.loop-i.invariant (omega (arith, c.loop-i-test.true)) (sym c.next_touched.ensures ∙ c.in-At.is))
+    let_finds (wider s.args.kept.now s.args.mask s.args.value s.args.last s.args.more s.args.to) c.loop-i.invariant (omega (arith, c.loop-i-test.true)) (sym c.next_touched.ensures ∙ c.in-Some.is)
+    (both-are _ _ (let_is (wider s.args.kept.now s.args.mask s.args.value s.args.last s.args.more s.args.to) c.loop-i.invariant (omega (arith, c.loop-i-test.true)) (sym c.next_touched.ensures ∙ c.in-Some.is))
     (rw c.row_at.ensures at (sym c.test.ensures ∙ c.if-test.true)))
 
 pub overflow_add-i : goal.overflow_add-i
 overflow_add-i c =
     let s = c in
-    record { fits = omega (arith, s.ranges.to, let_below (wider s.args.kept.now s.args.mask s.args.value s.args.last s.args.more s.args.to) c.loop-i.invariant (omega (arith, c.loop-i-test.true)) (sym c.next_touched.ensures ∙ c.in-At.is)) }
+    record { fits = omega (arith, s.ranges.to, let_below (wider s.args.kept.now s.args.mask s.args.value s.args.last s.args.more s.args.to) c.loop-i.invariant (omega (arith, c.loop-i-test.true)) (sym c.next_touched.ensures ∙ c.in-Some.is)) }
 
 pub loop-i-smaller : goal.loop-i-smaller
 loop-i-smaller c =
     let s = c in
     let w = (wider s.args.kept.now s.args.mask s.args.value s.args.last s.args.more s.args.to) in
-    omega (arith, let_below w c.loop-i.invariant (omega (arith, c.loop-i-test.true)) (sym c.next_touched.ensures ∙ c.in-At.is), let_from w c.loop-i.invariant (omega (arith, c.loop-i-test.true)) (sym c.next_touched.ensures ∙ c.in-At.is))
+    omega (arith, let_below w c.loop-i.invariant (omega (arith, c.loop-i-test.true)) (sym c.next_touched.ensures ∙ c.in-Some.is), let_from w c.loop-i.invariant (omega (arith, c.loop-i-test.true)) (sym c.next_touched.ensures ∙ c.in-Some.is))
 
 pub loop-i-preserved : goal.loop-i-preserved
 loop-i-preserved c =
     let s = c in
-    let_passes (wider s.args.kept.now s.args.mask s.args.value s.args.last s.args.more s.args.to) c.loop-i.invariant (omega (arith, c.loop-i-test.true)) (sym c.next_touched.ensures ∙ c.in-At.is)
-    (both-are _ _ (let_is (wider s.args.kept.now s.args.mask s.args.value s.args.last s.args.more s.args.to) c.loop-i.invariant (omega (arith, c.loop-i-test.true)) (sym c.next_touched.ensures ∙ c.in-At.is))
+    let_passes (wider s.args.kept.now s.args.mask s.args.value s.args.last s.args.more s.args.to) c.loop-i.invariant (omega (arith, c.loop-i-test.true)) (sym c.next_touched.ensures ∙ c.in-Some.is)
+    (both-are _ _ (let_is (wider s.args.kept.now s.args.mask s.args.value s.args.last s.args.more s.args.to) c.loop-i.invariant (omega (arith, c.loop-i-test.true)) (sym c.next_touched.ensures ∙ c.in-Some.is))
     (rw c.row_at.ensures at (sym c.test.ensures ∙ c.if-test.false)))
 
 pub returns : goal.returns
