@@ -1,10 +1,11 @@
-// Words of 64 bits: powers of two, parts, spans, and words in bytes.
+// Words of 64 bits: powers of two, parts, spans, and words in bytes; and the lowest number that passes a test.
 #![tactic(auto)]
 
-ghost use Rattle.std.specs.Prelude.{◌≡◌, [], ◌∷◌, ◌+◌, ◌-◌, ◌^◌, ◌≤◌, ◌<◌, length};
+ghost use Rattle.std.specs.Prelude.{◌≡◌, ℕ, Bool, [], ◌∷◌, ◌+◌, ◌-◌, ◌^◌, ◌≤◌, ◌<◌, length};
 ghost use Rattle.words.specs.Parts.{part, put};
 ghost use Rattle.words.specs.Spans.{overlap};
 ghost use Rattle.words.specs.Bytes.{little_endian, word_at, with_word};
+ghost use Rattle.words.specs.Search.{lowest};
 
 // The n-th power of two.
 pub fn power(n: u64) -> u64
@@ -125,4 +126,17 @@ pub fn store_at(bytes: &mut [u8], at: usize, w: u64)
     bytes[at + 5] = (f % 0x100) as u8;
     bytes[at + 6] = (g % 0x100) as u8;
     bytes[at + 7] = (h % 0x100) as u8;
+}
+
+// The lowest number from `from` on, and below `to`, that passes. The clause is for any p that says what the test answers.
+pub fn lowest_in<F: Fn(usize) -> bool>(from: usize, to: usize, passes: F) -> Option<usize>
+    requires { (i : ℕ) → from ≤ i → i < to → F.pre passes i }
+    ensures { (p : ℕ → Bool) → ((i : ℕ) (b : Bool) → from ≤ i → i < to → F.post passes i b → b ≡ p i) → result ≡ lowest p (to - from) from }
+{
+    for i in from..to {
+        if passes(i) {
+            return Some(i);
+        }
+    }
+    None
 }
