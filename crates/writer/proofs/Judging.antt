@@ -122,7 +122,7 @@ module _ (f : Features) (d : List ℕ) where
           let none : fits d ≡ false = sym (same-fits m (back ∙ is)) ∙ rw asks at (sym same ∙ e) in
           rw (back, is, none) (no-matter (ltb (asked d 0) (2 ^ width code_bits)))
         where
-          no-matter : (a : Bool) → Err Unfit ≡ pick (a && false) (Err Missing) (Err Unfit)
+          no-matter : (a : Bool) → ◌≡◌ {A = Result Coded Fault} (Err Unfit) (pick (a && false) (Err Missing) (Err Unfit))
           no-matter true = refl
           no-matter false = refl
 

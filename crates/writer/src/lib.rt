@@ -40,6 +40,8 @@ pub enum WriteRefusal {
 }
 
 impl From<Fault> for WriteRefusal {
+    ghost use Rattle.writer.specs.declared.WriteRefusal.{WriteRefusal};
+
     ghost from_gives = { λ why e. e ≡ WriteRefusal.Bad why };
 
     fn from(why: Fault) -> WriteRefusal {
