@@ -3,6 +3,7 @@
 
 ghost use Rattle.std.specs.Prelude.{◌≡◌, ◌+◌, ◌*◌, ◌≤◌, ◌<◌, length, set};
 ghost use Rattle.words.specs.Outcomes.{Gives};
+ghost use Rattle.fills.specs.declared.FillRefusal.TheVariants.{Image};
 ghost use Rattle.fills.specs.Fills.{store_at, fit, fill, Stores};
 
 use rows::Row;
@@ -32,7 +33,7 @@ pub enum FillRefusal {
 }
 
 impl From<image::Refusal> for FillRefusal {
-    ghost from_gives = { λ why e. e ≡ FillRefusal.Image why };
+    ghost from_gives = { λ why e. e ≡ Image why };
 
     fn from(why: image::Refusal) -> FillRefusal {
         FillRefusal::Image(why)
