@@ -83,7 +83,7 @@ def own_reason(log, crate, name):
     """Why a log does not show a failed fact of one function, of one of its named facts, or of one law; None where it does."""
     where, _, fact = name.partition('.')
     left = []
-    if where[0].isupper():
+    if where[0].isupper() and '::' not in where:
         file = re.escape(where)
     else:
         file = re.escape(where.replace('::', '/')) + '/(Answers|Proof)'

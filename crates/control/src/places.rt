@@ -1,32 +1,20 @@
-// Where the parts of the control word stand: their highest and lowest bits.
-pub const RD_HIGH: u64 = 19;
+// Where the parts of the control word stand.
+use words::BitField;
 
-pub const RD_LOW: u64 = 0;
+pub const RD: BitField = BitField { high: 19, low: 0 };
 
-pub const WR_HIGH: u64 = 39;
+pub const WR: BitField = BitField { high: 39, low: 20 };
 
-pub const WR_LOW: u64 = 20;
+pub const ERR: BitField = BitField { high: 46, low: 40 };
 
-pub const ERR_HIGH: u64 = 46;
+pub const GERROR: BitField = BitField { high: 47, low: 47 };
 
-pub const ERR_LOW: u64 = 40;
+pub const GERRORN: BitField = BitField { high: 48, low: 48 };
 
-pub const GERROR_HIGH: u64 = 47;
+pub const CMDQEN: BitField = BitField { high: 49, low: 49 };
 
-pub const GERROR_LOW: u64 = 47;
+pub const LOG2SIZE: BitField = BitField { high: 54, low: 50 };
 
-pub const GERRORN_HIGH: u64 = 48;
+pub const PENDING: BitField = BitField { high: 55, low: 55 };
 
-pub const GERRORN_LOW: u64 = 48;
-
-pub const CMDQEN_HIGH: u64 = 49;
-
-pub const CMDQEN_LOW: u64 = 49;
-
-pub const LOG2SIZE_HIGH: u64 = 54;
-
-pub const LOG2SIZE_LOW: u64 = 50;
-
-pub const PENDING_HIGH: u64 = 55;
-
-pub const PENDING_LOW: u64 = 55;
+pub const ZERO: BitField = BitField { high: 63, low: 56 };

@@ -10,53 +10,54 @@ pub const MAX_LOG2: u64 = 12;
 pub fn rd_of(w: u64) -> u64
     ensures { result ≡ rd w }
 {
-    words::part(w, places::RD_HIGH, places::RD_LOW)
+    places::RD.of(w)
 }
 
 pub fn wr_of(w: u64) -> u64
     ensures { result ≡ wr w }
 {
-    words::part(w, places::WR_HIGH, places::WR_LOW)
+    places::WR.of(w)
 }
 
 fn err_of(w: u64) -> u64
     ensures { result ≡ err w }
 {
-    words::part(w, places::ERR_HIGH, places::ERR_LOW)
+    places::ERR.of(w)
 }
 
 pub fn gerror_of(w: u64) -> u64
     ensures { (result ≡ gerror w) × (result ≤ 1) }
 {
-    words::part(w, places::GERROR_HIGH, places::GERROR_LOW)
+    places::GERROR.of(w)
 }
 
 fn gerrorn_of(w: u64) -> u64
     ensures { result ≡ gerrorn w }
 {
-    words::part(w, places::GERRORN_HIGH, places::GERRORN_LOW)
+    places::GERRORN.of(w)
 }
 
 fn cmdqen_of(w: u64) -> u64
     ensures { result ≡ cmdqen w }
 {
-    words::part(w, places::CMDQEN_HIGH, places::CMDQEN_LOW)
+    places::CMDQEN.of(w)
 }
 
 // Five bits, so that a queue's indexes are within the machine's reach before the limit is tested.
 pub fn log2size_of(w: u64) -> u64
     ensures { (result ≡ log2size w) × (result < 32) }
 {
-    words::part(w, places::LOG2SIZE_HIGH, places::LOG2SIZE_LOW)
+    places::LOG2SIZE.of(w)
 }
 
 // Document 02, T-08: whether a completion interrupt is pending.
 pub fn pending_of(w: u64) -> u64
     ensures { result ≡ pending w }
 {
-    words::part(w, places::PENDING_HIGH, places::PENDING_LOW)
+    places::PENDING.of(w)
 }
 
+#[tactic(auto, unfolding(crate::specs::Control::fields_of))]
 pub fn fields_of(w: u64) -> Fields
     ensures { result ≡ fields_of w }
 {
@@ -72,16 +73,18 @@ pub fn fields_of(w: u64) -> Fields
     }
 }
 
+#[tactic(auto, unfolding(crate::specs::Control::active))]
 pub fn active(w: u64) -> bool
     ensures { result ≡ active w }
 {
     !(gerror_of(w) == gerrorn_of(w))
 }
 
+#[tactic(auto, unfolding(crate::specs::Control::well_formed))]
 pub fn well_formed(w: u64) -> bool
     ensures { result ≡ well_formed w }
 {
-    (words::part(w, 63, 56) == 0)
+    (places::ZERO.of(w) == 0)
         & (log2size_of(w) <= MAX_LOG2)
         & indexes::well_formed(log2size_of(w), rd_of(w), wr_of(w))
         & (err_of(w) <= 1)
@@ -103,6 +106,7 @@ pub fn standing_of(w: u64) -> Standing
     Standing::Open
 }
 
+#[tactic(auto, unfolding(crate::specs::Control::slot))]
 pub fn slot_of(w: u64) -> u64
     ensures { result ≡ slot w }
 {

@@ -6,29 +6,22 @@ ghost use Rattle.control_stores.specs.Stores.{consumed, raised, may_ring, rung, 
 
 use control::{gerror_of, log2size_of, places, rd_of, wr_of};
 
+#[tactic(auto, unfolding(crate::specs::Stores::consumed))]
 pub fn consumed(w: u64) -> u64
     ensures { result ≡ consumed w }
 {
-    words::put(
-        w,
-        places::RD_HIGH,
-        places::RD_LOW,
-        indexes::next(log2size_of(w), rd_of(w)),
-    )
+    places::RD.put(w, indexes::next(log2size_of(w), rd_of(w)))
 }
 
+#[tactic(auto, unfolding(crate::specs::Stores::raised))]
 pub fn raised(w: u64) -> u64
     ensures { result ≡ raised w }
 {
-    words::put(
-        words::put(w, places::ERR_HIGH, places::ERR_LOW, 1),
-        places::GERROR_HIGH,
-        places::GERROR_LOW,
-        1 - gerror_of(w),
-    )
+    places::GERROR.put(places::ERR.put(w, 1), 1 - gerror_of(w))
 }
 
 // Whether WR may become v.
+#[tactic(auto, unfolding(crate::specs::Stores::may_ring, control::specs::Control::distance))]
 pub fn may_ring(w: u64, v: u64) -> bool
     ensures { result ≡ may_ring w v }
 {
@@ -38,33 +31,31 @@ pub fn may_ring(w: u64, v: u64) -> bool
         & (indexes::distance(n, rd, wr_of(w)) <= indexes::distance(n, rd, v))
 }
 
+#[tactic(auto, unfolding(crate::specs::Stores::rung))]
 pub fn rung(w: u64, v: u64) -> u64
     ensures { result ≡ rung w v }
 {
-    words::put(w, places::WR_HIGH, places::WR_LOW, v)
+    places::WR.put(w, v)
 }
 
+#[tactic(auto, unfolding(crate::specs::Stores::acknowledged))]
 pub fn acknowledged(w: u64) -> u64
     ensures { result ≡ acknowledged w }
 {
-    words::put(w, places::GERRORN_HIGH, places::GERRORN_LOW, gerror_of(w))
+    places::GERRORN.put(w, gerror_of(w))
 }
 
 // Document 02, T-08: the completion interrupt pending, or no longer.
+#[tactic(auto, unfolding(crate::specs::Stores::pended))]
 pub fn pended(w: u64, on: bool) -> u64
     ensures { result ≡ pended w on }
 {
-    if on {
-        return words::put(w, places::PENDING_HIGH, places::PENDING_LOW, 1);
-    }
-    words::put(w, places::PENDING_HIGH, places::PENDING_LOW, 0)
+    places::PENDING.put(w, u64::from(on))
 }
 
+#[tactic(auto, unfolding(crate::specs::Stores::switched))]
 pub fn switched(w: u64, on: bool) -> u64
     ensures { result ≡ switched w on }
 {
-    if on {
-        return words::put(w, places::CMDQEN_HIGH, places::CMDQEN_LOW, 1);
-    }
-    words::put(w, places::CMDQEN_HIGH, places::CMDQEN_LOW, 0)
+    places::CMDQEN.put(w, u64::from(on))
 }

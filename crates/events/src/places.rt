@@ -1,24 +1,14 @@
-// Where the parts of the index word stand: their highest and lowest bits.
-pub const RD_HIGH: u64 = 19;
+// Where the parts of the index word stand.
+use words::BitField;
 
-pub const RD_LOW: u64 = 0;
+pub const RD: BitField = BitField { high: 19, low: 0 };
 
-pub const WR_HIGH: u64 = 39;
+pub const WR: BitField = BitField { high: 39, low: 20 };
 
-pub const WR_LOW: u64 = 20;
+pub const OVERFLOW: BitField = BitField { high: 40, low: 40 };
 
-pub const OVERFLOW_HIGH: u64 = 40;
+pub const OVERFLOW_ACK: BitField = BitField { high: 41, low: 41 };
 
-pub const OVERFLOW_LOW: u64 = 40;
+pub const LOG2SIZE: BitField = BitField { high: 46, low: 42 };
 
-pub const OVERFLOW_ACK_HIGH: u64 = 41;
-
-pub const OVERFLOW_ACK_LOW: u64 = 41;
-
-pub const LOG2SIZE_HIGH: u64 = 46;
-
-pub const LOG2SIZE_LOW: u64 = 42;
-
-pub const ZERO_HIGH: u64 = 63;
-
-pub const ZERO_LOW: u64 = 47;
+pub const ZERO: BitField = BitField { high: 63, low: 47 };

@@ -5,46 +5,30 @@ ghost use Rattle.events.specs.Stores.{written, read_out, flipped, acknowledged};
 use crate::places;
 use crate::word::{log2size_of, overflow_of, rd_of, wr_of};
 
+#[tactic(auto, unfolding(crate::specs::Stores::written))]
 pub fn written(w: u64) -> u64
     ensures { result ≡ written w }
 {
-    words::put(
-        w,
-        places::WR_HIGH,
-        places::WR_LOW,
-        indexes::next(log2size_of(w), wr_of(w)),
-    )
+    places::WR.put(w, indexes::next(log2size_of(w), wr_of(w)))
 }
 
+#[tactic(auto, unfolding(crate::specs::Stores::read_out))]
 pub fn read_out(w: u64) -> u64
     ensures { result ≡ read_out w }
 {
-    words::put(
-        w,
-        places::RD_HIGH,
-        places::RD_LOW,
-        indexes::next(log2size_of(w), rd_of(w)),
-    )
+    places::RD.put(w, indexes::next(log2size_of(w), rd_of(w)))
 }
 
+#[tactic(auto, unfolding(crate::specs::Stores::flipped))]
 pub fn flipped(w: u64) -> u64
     ensures { result ≡ flipped w }
 {
-    words::put(
-        w,
-        places::OVERFLOW_HIGH,
-        places::OVERFLOW_LOW,
-        1 - overflow_of(w),
-    )
+    places::OVERFLOW.put(w, 1 - overflow_of(w))
 }
 
+#[tactic(auto, unfolding(crate::specs::Stores::acknowledged))]
 pub fn acknowledged(w: u64) -> u64
     ensures { result ≡ acknowledged w }
 {
-    words::put(
-        w,
-        places::OVERFLOW_ACK_HIGH,
-        places::OVERFLOW_ACK_LOW,
-        overflow_of(w),
-    )
+    places::OVERFLOW_ACK.put(w, overflow_of(w))
 }

@@ -7,35 +7,36 @@ use crate::places;
 pub fn rd_of(w: u64) -> u64
     ensures { result ≡ rd w }
 {
-    words::part(w, places::RD_HIGH, places::RD_LOW)
+    places::RD.of(w)
 }
 
 pub fn wr_of(w: u64) -> u64
     ensures { result ≡ wr w }
 {
-    words::part(w, places::WR_HIGH, places::WR_LOW)
+    places::WR.of(w)
 }
 
 pub fn overflow_of(w: u64) -> u64
     ensures { (result ≡ overflow w) × (result ≤ 1) }
 {
-    words::part(w, places::OVERFLOW_HIGH, places::OVERFLOW_LOW)
+    places::OVERFLOW.of(w)
 }
 
 fn overflow_ack_of(w: u64) -> u64
     ensures { result ≡ overflow_ack w }
 {
-    words::part(w, places::OVERFLOW_ACK_HIGH, places::OVERFLOW_ACK_LOW)
+    places::OVERFLOW_ACK.of(w)
 }
 
 // Five bits, so that the indexes are within the machine's reach whatever the word is.
 pub fn log2size_of(w: u64) -> u64
     ensures { (result ≡ log2size w) × (result < 32) }
 {
-    words::part(w, places::LOG2SIZE_HIGH, places::LOG2SIZE_LOW)
+    places::LOG2SIZE.of(w)
 }
 
 // Whether an overflow waits to be acknowledged.
+#[tactic(auto, unfolding(crate::specs::Word::outstanding))]
 pub fn outstanding(w: u64) -> bool
     ensures { result ≡ outstanding w }
 {
@@ -43,21 +44,22 @@ pub fn outstanding(w: u64) -> bool
 }
 
 // Whether w is an index word of 2^n slots.
+#[tactic(auto, unfolding(crate::specs::Word::well_formed))]
 pub fn well_formed(n: u64, w: u64) -> bool
     requires { n < 63 }
     ensures { result ≡ well_formed n w }
 {
-    (words::part(w, places::ZERO_HIGH, places::ZERO_LOW) == 0)
-        & (log2size_of(w) == n)
-        & indexes::well_formed(n, rd_of(w), wr_of(w))
+    (places::ZERO.of(w) == 0) & (log2size_of(w) == n) & indexes::well_formed(n, rd_of(w), wr_of(w))
 }
 
+#[tactic(auto, unfolding(crate::specs::Word::is_empty))]
 pub fn is_empty(w: u64) -> bool
     ensures { result ≡ is_empty w }
 {
     rd_of(w) == wr_of(w)
 }
 
+#[tactic(auto, unfolding(crate::specs::Word::is_full, crate::specs::Word::distance))]
 pub fn is_full(w: u64) -> bool
     ensures { result ≡ is_full w }
 {
@@ -66,6 +68,7 @@ pub fn is_full(w: u64) -> bool
 }
 
 // The slot of the oldest record.
+#[tactic(auto, unfolding(crate::specs::Word::oldest))]
 pub fn oldest(w: u64) -> u64
     ensures { result ≡ oldest w }
 {
@@ -73,6 +76,7 @@ pub fn oldest(w: u64) -> u64
 }
 
 // The slot that the next record goes to.
+#[tactic(auto, unfolding(crate::specs::Word::free))]
 pub fn free(w: u64) -> u64
     ensures { result ≡ free w }
 {

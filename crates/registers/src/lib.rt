@@ -21,44 +21,37 @@ pub struct Decision {
 }
 
 // The word that the fields make. What a field has above its part's width is left out.
+#[tactic(auto, unfolding(crate::specs::Registers::packed))]
 pub fn pack(f: Fields) -> u64
     ensures { result ≡ packed f }
 {
-    let rd = words::put(0, places::RD_HIGH, places::RD_LOW, f.rd);
-    let wr = words::put(rd, places::WR_HIGH, places::WR_LOW, f.wr);
-    let err = words::put(wr, places::ERR_HIGH, places::ERR_LOW, f.err);
-    let gerror = words::put(err, places::GERROR_HIGH, places::GERROR_LOW, f.gerror);
-    let gerrorn = words::put(gerror, places::GERRORN_HIGH, places::GERRORN_LOW, f.gerrorn);
-    let cmdqen = words::put(gerrorn, places::CMDQEN_HIGH, places::CMDQEN_LOW, f.cmdqen);
-    let log2size = words::put(
-        cmdqen,
-        places::LOG2SIZE_HIGH,
-        places::LOG2SIZE_LOW,
-        f.log2size,
-    );
-    words::put(
-        log2size,
-        places::PENDING_HIGH,
-        places::PENDING_LOW,
-        f.pending,
-    )
+    let rd = places::RD.put(0, f.rd);
+    let wr = places::WR.put(rd, f.wr);
+    let err = places::ERR.put(wr, f.err);
+    let gerror = places::GERROR.put(err, f.gerror);
+    let gerrorn = places::GERRORN.put(gerror, f.gerrorn);
+    let cmdqen = places::CMDQEN.put(gerrorn, f.cmdqen);
+    let log2size = places::LOG2SIZE.put(cmdqen, f.log2size);
+    places::PENDING.put(log2size, f.pending)
 }
 
 // Each field within its part's width.
+#[tactic(auto, unfolding(crate::specs::Registers::fits))]
 fn fits(f: Fields) -> bool
     ensures { result ≡ fits f }
 {
-    (f.rd < 0x10_0000)
-        & (f.wr < 0x10_0000)
-        & (f.err < 0x80)
-        & (f.gerror < 2)
-        & (f.gerrorn < 2)
-        & (f.cmdqen < 2)
-        & (f.log2size < 0x20)
-        & (f.pending < 2)
+    places::RD.fits(f.rd)
+        & places::WR.fits(f.wr)
+        & places::ERR.fits(f.err)
+        & places::GERROR.fits(f.gerror)
+        & places::GERRORN.fits(f.gerrorn)
+        & places::CMDQEN.fits(f.cmdqen)
+        & places::LOG2SIZE.fits(f.log2size)
+        & places::PENDING.fits(f.pending)
 }
 
 // The rule, on the fields by value.
+#[tactic(auto, unfolding(crate::specs::Registers::decided, crate::specs::Registers::formed))]
 pub fn decide(f: Fields) -> Decision
     ensures { result ≡ decided f }
 {

@@ -1,10 +1,10 @@
 // Words of 64 bits: powers of two, parts, spans, and words in bytes; and the lowest number that passes a test.
 #![tactic(auto)]
 
-ghost use Rattle.std.specs.Prelude.{◌≡◌, ℕ, Bool, [], ◌∷◌, ◌+◌, ◌-◌, ◌^◌, ◌≤◌, ◌<◌, length};
+ghost use Rattle.std.specs.Prelude.{◌≡◌, ℕ, Bool, ◌+◌, ◌-◌, ◌^◌, ◌≤◌, ◌<◌, nat_lt, length};
 ghost use Rattle.words.specs.Parts.{part, put};
 ghost use Rattle.words.specs.Spans.{overlap};
-ghost use Rattle.words.specs.Bytes.{little_endian, word_at, with_word};
+ghost use Rattle.words.specs.Bytes.{word_at, with_word};
 ghost use Rattle.words.specs.Search.{lowest};
 
 // The n-th power of two.
@@ -56,6 +56,13 @@ impl BitField {
     {
         put(w, self.high, self.low, v)
     }
+
+    // Whether v is no wider than these bits.
+    pub fn fits(self, v: u64) -> bool
+        ensures { result ≡ nat_lt v (2 ^ (self.high + 1 - self.low)) }
+    {
+        v < power(self.high + 1 - self.low)
+    }
 }
 
 // Whether the n numbers from a on and the k from b on share one, by the distance of a and b: an end may be 2^64.
@@ -76,34 +83,14 @@ pub fn wide(x: u8) -> u64
     x as u64
 }
 
-fn joined(a: u8, b: u8, c: u8, d: u8, e: u8, f: u8, g: u8, h: u8) -> u64
-    ensures { result ≡ little_endian (a ∷ b ∷ c ∷ d ∷ e ∷ f ∷ g ∷ h ∷ []) }
-{
-    wide(a)
-        + 0x100 * wide(b)
-        + 0x1_0000 * wide(c)
-        + 0x100_0000 * wide(d)
-        + 0x1_0000_0000 * wide(e)
-        + 0x100_0000_0000 * wide(f)
-        + 0x1_0000_0000_0000 * wide(g)
-        + 0x100_0000_0000_0000 * wide(h)
-}
-
 // The word of the eight bytes from `at` on.
 pub fn word_at(bytes: &[u8], at: usize) -> u64
     requires { at + 8 ≤ length bytes.now }
     ensures { result ≡ word_at bytes.now at }
 {
-    joined(
-        bytes[at],
-        bytes[at + 1],
-        bytes[at + 2],
-        bytes[at + 3],
-        bytes[at + 4],
-        bytes[at + 5],
-        bytes[at + 6],
-        bytes[at + 7],
-    )
+    let mut word = [0; 8];
+    word.copy_from_slice(&bytes[at..at + 8]);
+    u64::from_le_bytes(word)
 }
 
 // Stores a word as the eight bytes from `at` on.
@@ -111,21 +98,7 @@ pub fn store_at(bytes: &mut [u8], at: usize, w: u64)
     requires { at + 8 ≤ length bytes.old }
     ensures { bytes.new ≡ with_word bytes.old at w }
 {
-    let b = w / 0x100;
-    let c = b / 0x100;
-    let d = c / 0x100;
-    let e = d / 0x100;
-    let f = e / 0x100;
-    let g = f / 0x100;
-    let h = g / 0x100;
-    bytes[at] = (w % 0x100) as u8;
-    bytes[at + 1] = (b % 0x100) as u8;
-    bytes[at + 2] = (c % 0x100) as u8;
-    bytes[at + 3] = (d % 0x100) as u8;
-    bytes[at + 4] = (e % 0x100) as u8;
-    bytes[at + 5] = (f % 0x100) as u8;
-    bytes[at + 6] = (g % 0x100) as u8;
-    bytes[at + 7] = (h % 0x100) as u8;
+    bytes[at..at + 8].copy_from_slice(&w.to_le_bytes());
 }
 
 // The lowest number from `from` on, and below `to`, that passes. The clause is for any p that says what the test answers.

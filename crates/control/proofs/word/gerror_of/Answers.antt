@@ -6,4 +6,4 @@ use Rattle.control.specs.Control.{gerror_bits}
 use Rattle.control.proofs.word.gerror_of.Goals as goal
 
 pub returns : goal.returns
-returns c = (c.part.ensures, omega (arith, c.part.ensures, part_lt gerror_bits c.args.w))
+returns c = (c.of.ensures, omega (arith, c.of.ensures, part_lt gerror_bits c.args.w))

@@ -6,4 +6,4 @@ use Rattle.events.specs.Word.{overflow_bits}
 use Rattle.events.proofs.word.overflow_of.Goals as goal
 
 pub returns : goal.returns
-returns c = (c.part.ensures, omega (arith, c.part.ensures, part_lt overflow_bits c.args.w))
+returns c = (c.of.ensures, omega (arith, c.of.ensures, part_lt overflow_bits c.args.w))
