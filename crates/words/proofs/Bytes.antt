@@ -8,9 +8,8 @@ use native.Mathlib.Nat.{add-suc, div-add-mod', div-lt_iff_lt-mul, pow-suc, div-d
 use native.Mathlib.Omega.{arith}
 use lib.Arith.{lt-one}
 use Rattle.std.specs.Int.{w64, byte_at, bytes_low_first, from_le_bytes, to_le_bytes}
-use borrow.Rule.Slice.PartMut.{put_mid}
 use lib.ListN.{length, get_or, take, drop, set}
-use lib.Seq.{drop-drop, take_all, drop-cons, sets, length-sets, sets-eq, drop_at, take_at, length-take-le, get_or-set_other}
+use lib.Seq.{take_all, drop-cons, sets, length-sets, sets-eq, drop_at, take_at, length-take-le, get_or-set_other}
 use Rattle.words.specs.Bytes.{little_endian, word_at, bytes_of, Bytes, none, one, with_word}
 
 -- the n elements from place at + k on, read one by one
@@ -22,6 +21,20 @@ pub take_reads : (n : ℕ) (xs : List ℕ) (at k : ℕ) → at + k + n ≤ lengt
 take_reads zero xs at k h = refl
 take_reads (suc n) xs at k h =
     rw (drop-cons xs (at + k) 0 (omega arith), ← add-suc at k) (ap (λ (l : List ℕ). get_or xs (at + k) 0 ∷ l) (take_reads n xs at (suc k) (omega arith)))
+
+-- eight stores one after the other, as code counts their places
+pub eight_stores : (l : List ℕ) (at a b c d e f g h : ℕ)
+    → set (set (set (set (set (set (set (set l at a) (at + 1) b) (at + 2) c) (at + 3) d) (at + 4) e) (at + 5) f) (at + 6) g) (at + 7) h
+    ≡ sets l at (a ∷ b ∷ c ∷ d ∷ e ∷ f ∷ g ∷ h ∷ [])
+eight_stores l at a b c d e f g h =
+    let e1 : at + 1 ≡ suc at = omega arith in
+    let e2 : at + 2 ≡ suc (suc at) = omega arith in
+    let e3 : at + 3 ≡ suc (suc (suc at)) = omega arith in
+    let e4 : at + 4 ≡ suc (suc (suc (suc at))) = omega arith in
+    let e5 : at + 5 ≡ suc (suc (suc (suc (suc at)))) = omega arith in
+    let e6 : at + 6 ≡ suc (suc (suc (suc (suc (suc at))))) = omega arith in
+    let e7 : at + 7 ≡ suc (suc (suc (suc (suc (suc (suc at)))))) = omega arith in
+    rw (e1, e2, e3, e4, e5, e6, e7)
 
 -- what std says of eight bytes, in these words: the number that they make, and those of a number
 pub from_eight : (bs : List ℕ) → length bs ≡ 8 → from_le_bytes w64 bs ≡ little_endian bs
@@ -42,13 +55,6 @@ low_first i (suc n) w =
 
 pub to_eight : (w : ℕ) → to_le_bytes w64 w ≡ bytes_of 8 w
 to_eight w = low_first 0 8 w ∙ ap (bytes_of 8) (omega arith)
-
--- a part of a list overwritten is its elements stored one by one
-pub overwritten : (l vs : List ℕ) (at n : ℕ) → length vs ≡ n → at + n ≤ length l → put_mid at n l vs ≡ sets l at vs
-overwritten l vs at n e h =
-    let rest : drop n (drop at l) ≡ drop (at + n) l = drop-drop n at l in
-    let stored : sets l at vs ≡ take at l ++ vs ++ drop (at + n) l = rw e at (sets-eq vs l at (rw e h)) in
-    ap (λ (r : List ℕ). take at l ++ (vs ++ r)) rest ∙ sym (stored ∙ append_assoc (take at l) vs (drop (at + n) l))
 
 -- the bytes of a word make that word, and a list of bytes is that of its word
 pub joined_bytes : (n w : ℕ) → w < 256 ^ n → little_endian (bytes_of n w) ≡ w

@@ -88,17 +88,33 @@ pub fn word_at(bytes: &[u8], at: usize) -> u64
     requires { at + 8 ≤ length bytes.now }
     ensures { result ≡ word_at bytes.now at }
 {
-    let mut word = [0; 8];
-    word.copy_from_slice(&bytes[at..at + 8]);
-    u64::from_le_bytes(word)
+    u64::from_le_bytes([
+        bytes[at],
+        bytes[at + 1],
+        bytes[at + 2],
+        bytes[at + 3],
+        bytes[at + 4],
+        bytes[at + 5],
+        bytes[at + 6],
+        bytes[at + 7],
+    ])
 }
 
-// Stores a word as the eight bytes from `at` on.
+// Stores a word as the eight bytes from `at` on. One store a byte, and no copy of all eight: .ci/writes.py and box/volatile.py
+// count each store to lent memory (docs/DECISIONS.md, a slot's bytes are stored one by one).
 pub fn store_at(bytes: &mut [u8], at: usize, w: u64)
     requires { at + 8 ≤ length bytes.old }
     ensures { bytes.new ≡ with_word bytes.old at w }
 {
-    bytes[at..at + 8].copy_from_slice(&w.to_le_bytes());
+    let word = w.to_le_bytes();
+    bytes[at] = word[0];
+    bytes[at + 1] = word[1];
+    bytes[at + 2] = word[2];
+    bytes[at + 3] = word[3];
+    bytes[at + 4] = word[4];
+    bytes[at + 5] = word[5];
+    bytes[at + 6] = word[6];
+    bytes[at + 7] = word[7];
 }
 
 // The lowest number from `from` on, and below `to`, that passes. The clause is for any p that says what the test answers.
