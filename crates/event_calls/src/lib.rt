@@ -5,6 +5,8 @@
 ghost use Rattle.std.specs.Prelude.{◌≡◌, ◌+◌, ◌*◌, ◌≤◌, ◌<◌, length, set};
 ghost use Rattle.words.specs.Outcomes.{Gives};
 ghost use Rattle.events.specs.Events.{index_of};
+ghost use Rattle.event_calls.specs.declared.ReadRefusal.TheVariants.{Recorder as OfRecorder};
+ghost use Rattle.event_calls.specs.declared.AcknowledgeRefusal.TheVariants.{Recorder as ByRecorder};
 ghost use Rattle.event_calls.specs.Calls.{write_stores, store_at, drop_stores, Stores, write, read, acknowledge};
 
 use events::Record;
@@ -32,7 +34,7 @@ pub enum ReadRefusal {
 }
 
 impl From<events::Refusal> for ReadRefusal {
-    ghost from_gives = { λ why e. e ≡ ReadRefusal.Recorder why };
+    ghost from_gives = { λ why e. e ≡ OfRecorder why };
 
     fn from(why: events::Refusal) -> ReadRefusal {
         ReadRefusal::Recorder(why)
@@ -47,7 +49,7 @@ pub enum AcknowledgeRefusal {
 }
 
 impl From<events::Refusal> for AcknowledgeRefusal {
-    ghost from_gives = { λ why e. e ≡ AcknowledgeRefusal.Recorder why };
+    ghost from_gives = { λ why e. e ≡ ByRecorder why };
 
     fn from(why: events::Refusal) -> AcknowledgeRefusal {
         AcknowledgeRefusal::Recorder(why)

@@ -94,7 +94,12 @@ fn steps(kept: &mut [u64], row: usize, words: Row, allowance: u64) -> Filling
 }
 
 // Fills an empty row of an accepted image with fit words that no row doubles.
-pub fn fill(kept: &mut [u64], row: usize, words: Row, allowance: u64) -> Result<Filling, FillRefusal>
+pub fn fill(
+    kept: &mut [u64],
+    row: usize,
+    words: Row,
+    allowance: u64,
+) -> Result<Filling, FillRefusal>
     ensures { Gives (fill kept.old row words allowance) kept.new result }
 {
     let n = image::check(&*kept)?;

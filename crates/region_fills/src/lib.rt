@@ -3,6 +3,7 @@
 
 ghost use Rattle.std.specs.Prelude.{◌≡◌, ◌+◌, ◌*◌, ◌≤◌, ◌<◌, length, set};
 ghost use Rattle.words.specs.Outcomes.{Gives};
+ghost use Rattle.region_fills.specs.declared.FillRefusal.TheVariants.{Image, Table};
 ghost use Rattle.region_fills.specs.Fills.{store_at, fit, fill_row, fill, Stores};
 
 use fills::{FillEnd, Filling};
@@ -19,7 +20,7 @@ pub enum FillRefusal {
 }
 
 impl From<image::Refusal> for FillRefusal {
-    ghost from_gives = { λ why e. e ≡ FillRefusal.Image why };
+    ghost from_gives = { λ why e. e ≡ Image why };
 
     fn from(why: image::Refusal) -> FillRefusal {
         FillRefusal::Image(why)
@@ -27,7 +28,7 @@ impl From<image::Refusal> for FillRefusal {
 }
 
 impl From<regions::Refusal> for FillRefusal {
-    ghost from_gives = { λ why e. e ≡ FillRefusal.Table why };
+    ghost from_gives = { λ why e. e ≡ Table why };
 
     fn from(why: regions::Refusal) -> FillRefusal {
         FillRefusal::Table(why)
@@ -86,7 +87,13 @@ fn steps(table: &mut [u64], row: usize, words: Region, allowance: u64) -> Fillin
 }
 
 // Fills an empty row of a table of n rows with fit words.
-fn fill_row(table: &mut [u64], n: usize, row: usize, words: Region, allowance: u64) -> Result<Filling, FillRefusal>
+fn fill_row(
+    table: &mut [u64],
+    n: usize,
+    row: usize,
+    words: Region,
+    allowance: u64,
+) -> Result<Filling, FillRefusal>
     requires { 2 * n ≤ length table.old }
     ensures { Gives (fill_row table.old n row words allowance) table.new result }
 {

@@ -2,42 +2,40 @@
 -- Assumes nothing.
 use mathlib.Core.Path.{◌≡◌, sym, ◌∙◌}
 use Rattle.words.proofs.Outcomes.{gives}
-use Rattle.std.specs.Prelude.{Ok}
+use borrow.Author.Rules.{rules}
+use Rattle.std.specs.Prelude.{Err, Ok}
 use Rattle.events.specs.Events.{check}
 use Rattle.event_calls.proofs.Cases.{has-index, has-free, write-refused, write-drops, write-stores, meets-done}
 use Rattle.event_calls.proofs.write.Goals as goal
 
 pub bounds-kept-0 : goal.bounds-kept-0
 bounds-kept-0 c =
-    let accepted : check c.args.kept.now ≡ Ok c.in-Ok.field-0 =
-    sym c.check.ensures ∙ c.in-Ok.is in
+    let accepted : check c.args.kept.now ≡ Ok c.in_ok-check.field-0 = sym c.check.ensures ∙ c.in_ok-check.was in
     has-index _ _ accepted
 
 pub drop_one-dropped-requires : goal.drop_one-dropped-requires
 drop_one-dropped-requires c =
-    let accepted : check c.args.kept.now ≡ Ok c.in-Ok.field-0 =
-    sym c.check.ensures ∙ c.in-Ok.is in
+    let accepted : check c.args.kept.now ≡ Ok c.in_ok-check.field-0 = sym c.check.ensures ∙ c.in_ok-check.was in
     has-index _ _ accepted
 
 pub returns-then-is_full : goal.returns-then-is_full
 returns-then-is_full c =
-    let accepted : check c.args.kept.now ≡ Ok c.in-Ok.field-0 =
-    sym c.check.ensures ∙ c.in-Ok.is in
+    let accepted : check c.args.kept.now ≡ Ok c.in_ok-check.field-0 = sym c.check.ensures ∙ c.in_ok-check.was in
     meets-done c.drop_one-dropped.ensures (write-drops _ _ _ _ accepted (sym c.is_full.ensures ∙ c.if-is_full.true))
 
 pub steps-written-requires : goal.steps-written-requires
 steps-written-requires c =
-    let accepted : check c.args.kept.now ≡ Ok c.in-Ok.field-0 =
-    sym c.check.ensures ∙ c.in-Ok.is in
+    let accepted : check c.args.kept.now ≡ Ok c.in_ok-check.field-0 = sym c.check.ensures ∙ c.in_ok-check.was in
     rw c.free-slot.ensures (has-free _ _ accepted)
 
-pub returns-in-Err : goal.returns-in-Err
-returns-in-Err c = gives (write-refused _ _ _ _ (sym c.check.ensures ∙ c.in-Err.is))
+pub returns-in_err-check : goal.returns-in_err-check
+returns-in_err-check c =
+    let made : c.from_residual.result ≡ Err c.in_err-check.field-0.0 = search rules in
+    rw made (gives (write-refused _ _ _ _ (sym c.check.ensures ∙ c.in_err-check.was)))
 
-pub returns-else-is_full : goal.returns-else-is_full
-returns-else-is_full c =
-    let accepted : check c.args.kept.now ≡ Ok c.in-Ok.field-0 =
-    sym c.check.ensures ∙ c.in-Ok.is in
+pub returns : goal.returns
+returns c =
+    let accepted : check c.args.kept.now ≡ Ok c.in_ok-check.field-0 = sym c.check.ensures ∙ c.in_ok-check.was in
     meets-done c.steps-written.ensures
     (rw (c.free-slot.ensures, c.record_of-event.ensures, c.written-index.ensures)
     (write-stores _ _ _ _ accepted (sym c.is_full.ensures ∙ c.if-is_full.false)))
