@@ -14,7 +14,7 @@ use borrow.Author.Tests.{eqb-true}
 use Rattle.words.specs.Choice.{pick}
 use Rattle.std.specs.Prelude.{None, Option, Some}
 use Rattle.words.specs.Search.{lowest, count, place_of}
-use Rattle.words.proofs.Truth.{decided, left, right, less_or_not}
+use Rattle.words.proofs.Truth.{decided, left, right, less_or_not, clash, never}
 
 -- k is the lowest number from i on and below n that passes
 pub record Lowest (p : ℕ → Bool) (n i k : ℕ) : Type 0 where
@@ -172,6 +172,11 @@ module _ {p q : ℕ → Bool} {m n : ℕ} {target : (Option ℕ)} {i : ℕ} (w :
 
     pub let_passes : p k ≡ false → Searching p n target (k + 1)
     let_passes t = passes let_here (omega (arith, let_below, w.most)) t
+
+-- whatever passes is let through
+pub lets_through : {p q : ℕ → Bool} {n : ℕ} → ((j : ℕ) → j < n → p j ≡ true → q j ≡ true) → Wider p q n n
+lets_through {p = p} f =
+    record { most = omega arith; narrows = λ j h e. never (p j) (λ t. clash (f j h t) e); behind = λ j a b. absurd (omega arith) }
 
 -- a search passes over a beginning where none passes
 pub passes_over : (p : ℕ → Bool) (n k : ℕ) → k ≤ n → ((j : ℕ) → j < k → p j ≡ false) → lowest p n 0 ≡ lowest p (n - k) k

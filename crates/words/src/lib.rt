@@ -1,7 +1,7 @@
 // Words of 64 bits: powers of two, parts, spans, and words in bytes; and the lowest number that passes a test.
 #![tactic(auto)]
 
-ghost use Rattle.std.specs.Prelude.{◌≡◌, ℕ, Bool, ◌+◌, ◌-◌, ◌^◌, ◌≤◌, ◌<◌, nat_lt, length};
+ghost use Rattle.std.specs.Prelude.{◌≡◌, ℕ, Bool, true, Option, ◌+◌, ◌-◌, ◌^◌, ◌≤◌, ◌<◌, nat_lt, length};
 ghost use Rattle.words.specs.Parts.{part, put};
 ghost use Rattle.words.specs.Spans.{overlap};
 ghost use Rattle.words.specs.Bytes.{word_at, with_word};
@@ -126,6 +126,30 @@ pub fn lowest_in<F: Fn(usize) -> bool>(from: usize, to: usize, passes: F) -> Opt
         if passes(i) {
             return Some(i);
         }
+    }
+    None
+}
+
+// The same, where only the numbers are asked that `next` finds, each the lowest from a number on that may pass: q lets through
+// whatever passes.
+pub fn lowest_among<N: Fn(usize) -> Option<usize>, F: Fn(usize) -> bool>(
+    from: usize,
+    to: usize,
+    next: N,
+    passes: F,
+) -> Option<usize>
+    requires next { (i : ℕ) → from ≤ i → i < to → N.pre next i }
+    requires within { (i k : ℕ) → from ≤ i → i < to → N.post next i (Some k) → (i ≤ k) × (k < to) }
+    requires passes { (i : ℕ) → from ≤ i → i < to → F.pre passes i }
+    ensures { (p q : ℕ → Bool) → ((i : ℕ) (b : Bool) → from ≤ i → i < to → F.post passes i b → b ≡ p i) → ((i : ℕ) (r : Option ℕ) → from ≤ i → i < to → N.post next i r → r ≡ lowest q (to - i) i) → ((i : ℕ) → i < to → p i ≡ true → q i ≡ true) → result ≡ lowest p (to - from) from }
+{
+    let mut i = from;
+    while i < to {
+        let k = next(i)?;
+        if passes(k) {
+            return Some(k);
+        }
+        i = k + 1;
     }
     None
 }
