@@ -2,7 +2,6 @@
 #![tactic(auto)]
 
 ghost use Rattle.std.specs.Prelude.{◌≡◌, ◌+◌, ◌*◌, ◌≤◌, length};
-ghost use Rattle.words.specs.Search.{lowest};
 ghost use Rattle.image.specs.Image.{row_at, is_bad, is_used, check, used_rows};
 
 use rows::Row;
@@ -39,20 +38,6 @@ fn is_bad(kept: &[u64], i: usize) -> bool
     !row_forms::well_formed(row_at(kept, i))
 }
 
-fn lowest_bad(kept: &[u64], n: usize) -> Option<usize>
-    requires { 4 * n + 1 ≤ length kept.now }
-    ensures { result ≡ lowest (is_bad kept.now) n 0 }
-{
-    let mut i = 0;
-    while i < n {
-        if is_bad(kept, i) {
-            return Some(i);
-        }
-        i += 1;
-    }
-    None
-}
-
 // The number of rows, or refusal 1, 2 or 3.
 pub fn check(kept: &[u64]) -> Result<usize, Refusal>
     ensures { result ≡ check kept.now }
@@ -70,7 +55,7 @@ pub fn check(kept: &[u64]) -> Result<usize, Refusal>
     if !control::well_formed(kept[0]) {
         return Err(Refusal::BadControl);
     }
-    match lowest_bad(kept, n) {
+    match words::lowest_in(0, n, |i| is_bad(kept, i)) {
         Some(i) => Err(Refusal::BadRow(i)),
         None => Ok(n),
     }
@@ -88,13 +73,11 @@ pub fn used_rows(kept: &[u64], n: usize) -> usize
     requires { 4 * n + 1 ≤ length kept.now }
     ensures { result ≡ used_rows kept.now n }
 {
-    let mut used: usize = 0;
-    let mut i = 0;
-    while i < n {
+    let mut used = 0;
+    for i in 0..n {
         if is_used(kept, i) {
             used += 1;
         }
-        i += 1;
     }
     used
 }

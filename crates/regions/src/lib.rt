@@ -1,13 +1,11 @@
 // The second lent table: cached regions of the device permission table, rows of two words.
 #![tactic(auto)]
 
-
 mod fields;
 mod places;
 mod scopes;
 
 ghost use Rattle.std.specs.Prelude.{◌≡◌, ◌+◌, ◌*◌, ◌≤◌, length};
-ghost use Rattle.words.specs.Search.{lowest};
 ghost use Rattle.regions.specs.Table.{row_at, is_bad, check};
 
 pub use fields::{bytes_of, is_last, size_code, well_formed};
@@ -49,20 +47,6 @@ fn is_bad(table: &[u64], i: usize) -> bool
     !well_formed(row_at(table, i))
 }
 
-fn lowest_bad(table: &[u64], n: usize) -> Option<usize>
-    requires { 2 * n ≤ length table.now }
-    ensures { result ≡ lowest (is_bad table.now) n 0 }
-{
-    let mut i = 0;
-    while i < n {
-        if is_bad(table, i) {
-            return Some(i);
-        }
-        i += 1;
-    }
-    None
-}
-
 // The number of rows, or refusal 13 or 14.
 pub fn check(table: &[u64]) -> Result<usize, Refusal>
     ensures { result ≡ check table.now }
@@ -77,7 +61,7 @@ pub fn check(table: &[u64]) -> Result<usize, Refusal>
     if MAX_ROWS < n {
         return Err(Refusal::BadLength);
     }
-    match lowest_bad(table, n) {
+    match words::lowest_in(0, n, |i| is_bad(table, i)) {
         Some(i) => Err(Refusal::BadRow(i)),
         None => Ok(n),
     }
