@@ -6,8 +6,8 @@ ghost use Rattle.words.specs.Ranges.{get};
 ghost use Rattle.commands.specs.Formats.{codes, stream_bits, vmid_bits, asid_bits, leaf_bits, page_bits, is_set_in, target_of};
 ghost use Rattle.commands.specs.Decoding.{feature_present, bad_cs, bad_range, parameter_good, command_of, decode, decode_at, is_counted, syncs_of};
 
-use crate::formats::{CODES, clean, field};
-use crate::{Command, Decoded, Features, Reason, Target};
+use crate::formats::{CODES, clean};
+use crate::{Coded, Command, Decoded, Features, Reason, Target, fields};
 
 // The place of a code among the codes, or how many there are.
 fn place(code: u64) -> usize
@@ -65,101 +65,81 @@ fn feature_present(f: Features, code: u64) -> bool
     }
 }
 
-fn bad_cs(code: u64, lo: u64, hi: u64) -> bool
-    ensures { result ≡ bad_cs code (joined lo hi) }
+fn bad_cs(code: u64, c: Coded) -> bool
+    ensures { result ≡ bad_cs code (joined c.lo c.hi) }
 {
-    (code == 0x46) & (field(lo, hi, 13, 12) == 3)
+    (code == 0x46) & (fields::CS.of(c) == 3)
 }
 
 // Document 02, T-07: one granule, of which TTL gives no level.
-fn bad_range(code: u64, lo: u64, hi: u64) -> bool
-    ensures { result ≡ bad_range code (joined lo hi) }
+fn bad_range(code: u64, c: Coded) -> bool
+    ensures { result ≡ bad_range code (joined c.lo c.hi) }
 {
     let by_address = (code == 0x12)
         | (code == 0x13)
         | (code == 0x22)
         | (code == 0x23)
         | (code == 0x2A);
-    let tg = field(lo, hi, 75, 74);
-    let ttl = field(lo, hi, 73, 72);
-    let one = (field(lo, hi, 16, 12) == 0) & (field(lo, hi, 24, 20) == 0);
+    let tg = fields::TG.of(c);
+    let ttl = fields::TTL.of(c);
+    let one = (fields::NUM.of(c) == 0) & (fields::SCALE.of(c) == 0);
     by_address & !(tg == 0) & one & ((ttl == 0) | ((tg == 2) & (ttl == 1)))
 }
 
-fn parameter_good(code: u64, lo: u64, hi: u64) -> bool
-    ensures { result ≡ parameter_good code (joined lo hi) }
+fn parameter_good(code: u64, c: Coded) -> bool
+    ensures { result ≡ parameter_good code (joined c.lo c.hi) }
 {
-    !(bad_cs(code, lo, hi) | bad_range(code, lo, hi))
+    !(bad_cs(code, c) | bad_range(code, c))
 }
 
-fn stream(lo: u64, hi: u64) -> u64
-    ensures { result ≡ get stream_bits (joined lo hi) }
+fn leaf(c: Coded) -> bool
+    ensures { result ≡ is_set_in leaf_bits (joined c.lo c.hi) }
 {
-    field(lo, hi, 63, 32)
+    fields::LEAF.of(c) == 1
 }
 
-fn vmid(lo: u64, hi: u64) -> u64
-    ensures { result ≡ get vmid_bits (joined lo hi) }
-{
-    field(lo, hi, 47, 32)
-}
-
-fn asid(lo: u64, hi: u64) -> u64
-    ensures { result ≡ get asid_bits (joined lo hi) }
-{
-    field(lo, hi, 63, 48)
-}
-
-fn leaf(lo: u64, hi: u64) -> bool
-    ensures { result ≡ is_set_in leaf_bits (joined lo hi) }
-{
-    field(lo, hi, 64, 64) == 1
-}
-
-fn page(lo: u64, hi: u64) -> u64
-    ensures { result ≡ get page_bits (joined lo hi) }
-{
-    field(lo, hi, 127, 76)
-}
-
-fn target_of(lo: u64, hi: u64, page: u64) -> Target
-    ensures { result ≡ target_of page (joined lo hi) }
+fn target_of(c: Coded, page: u64) -> Target
+    ensures { result ≡ target_of page (joined c.lo c.hi) }
 {
     Target {
-        leaf: leaf(lo, hi),
+        leaf: leaf(c),
         page,
-        num: field(lo, hi, 16, 12),
-        scale: field(lo, hi, 24, 20),
-        tg: field(lo, hi, 75, 74),
-        ttl: field(lo, hi, 73, 72),
-        ttl128: field(lo, hi, 71, 71) == 1,
+        num: fields::NUM.of(c),
+        scale: fields::SCALE.of(c),
+        tg: fields::TG.of(c),
+        ttl: fields::TTL.of(c),
+        ttl128: fields::TTL128.of(c) == 1,
     }
 }
 
-fn command_of(code: u64, lo: u64, hi: u64) -> Command
-    ensures { result ≡ command_of code (joined lo hi) }
+fn command_of(code: u64, c: Coded) -> Command
+    ensures { result ≡ command_of code (joined c.lo c.hi) }
 {
     match code {
         0x01 => Command::PrefetchConfig,
         0x02 => Command::PrefetchAddr,
-        0x03 => Command::CfgiSte(stream(lo, hi), leaf(lo, hi)),
-        0x04 => Command::CfgiSteRange(stream(lo, hi), field(lo, hi, 68, 64)),
-        0x05 => Command::CfgiCd(field(lo, hi, 31, 12), stream(lo, hi), leaf(lo, hi)),
-        0x06 => Command::CfgiCdAll(stream(lo, hi)),
-        0x10 => Command::TlbiNhAll(vmid(lo, hi)),
-        0x11 => Command::TlbiNhAsid(vmid(lo, hi), asid(lo, hi)),
-        0x12 => Command::TlbiNhVa(vmid(lo, hi), asid(lo, hi), target_of(lo, hi, page(lo, hi))),
-        0x13 => Command::TlbiNhVaa(vmid(lo, hi), target_of(lo, hi, page(lo, hi))),
+        0x03 => Command::CfgiSte(fields::STREAM.of(c), leaf(c)),
+        0x04 => Command::CfgiSteRange(fields::STREAM.of(c), fields::RANGE.of(c)),
+        0x05 => Command::CfgiCd(fields::SUBSTREAM.of(c), fields::STREAM.of(c), leaf(c)),
+        0x06 => Command::CfgiCdAll(fields::STREAM.of(c)),
+        0x10 => Command::TlbiNhAll(fields::VMID.of(c)),
+        0x11 => Command::TlbiNhAsid(fields::VMID.of(c), fields::ASID.of(c)),
+        0x12 => Command::TlbiNhVa(
+            fields::VMID.of(c),
+            fields::ASID.of(c),
+            target_of(c, fields::PAGE.of(c)),
+        ),
+        0x13 => Command::TlbiNhVaa(fields::VMID.of(c), target_of(c, fields::PAGE.of(c))),
         0x20 => Command::TlbiEl2All,
-        0x21 => Command::TlbiEl2Asid(asid(lo, hi)),
-        0x22 => Command::TlbiEl2Va(asid(lo, hi), target_of(lo, hi, page(lo, hi))),
-        0x23 => Command::TlbiEl2Vaa(target_of(lo, hi, page(lo, hi))),
-        0x28 => Command::TlbiS12Vmall(vmid(lo, hi)),
-        0x2A => Command::TlbiS2Ipa(vmid(lo, hi), target_of(lo, hi, field(lo, hi, 115, 76))),
+        0x21 => Command::TlbiEl2Asid(fields::ASID.of(c)),
+        0x22 => Command::TlbiEl2Va(fields::ASID.of(c), target_of(c, fields::PAGE.of(c))),
+        0x23 => Command::TlbiEl2Vaa(target_of(c, fields::PAGE.of(c))),
+        0x28 => Command::TlbiS12Vmall(fields::VMID.of(c)),
+        0x2A => Command::TlbiS2Ipa(fields::VMID.of(c), target_of(c, fields::IPA_PAGE.of(c))),
         0x30 => Command::TlbiNsnhAll,
-        0x46 => Command::Sync(field(lo, hi, 13, 12)),
+        0x46 => Command::Sync(fields::CS.of(c)),
         0x70 => Command::DptiAll,
-        _ => Command::DptiPa(field(lo, hi, 119, 76), field(lo, hi, 75, 72), leaf(lo, hi)),
+        _ => Command::DptiPa(fields::DPT_PAGE.of(c), fields::SIZE.of(c), leaf(c)),
     }
 }
 
@@ -167,7 +147,8 @@ fn command_of(code: u64, lo: u64, hi: u64) -> Command
 pub fn decode(f: Features, lo: u64, hi: u64) -> Decoded
     ensures { result ≡ decode f lo hi }
 {
-    let code = field(lo, hi, 7, 0);
+    let c = Coded { lo, hi };
+    let code = fields::CODE.of(c);
     let k = place(code);
     if k >= CODES {
         return Decoded::Illegal(Reason::UnknownCode);
@@ -175,13 +156,13 @@ pub fn decode(f: Features, lo: u64, hi: u64) -> Decoded
     if !feature_present(f, code) {
         return Decoded::Illegal(Reason::FeatureAbsent);
     }
-    if !clean(f, k, lo, hi) {
+    if !clean(f, k, c) {
         return Decoded::Illegal(Reason::ReservedBit);
     }
-    if !parameter_good(code, lo, hi) {
+    if !parameter_good(code, c) {
         return Decoded::Illegal(Reason::BadParameter);
     }
-    Decoded::Legal(command_of(code, lo, hi))
+    Decoded::Legal(command_of(code, c))
 }
 
 // The command in a slot of the lent queue.

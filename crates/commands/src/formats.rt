@@ -5,7 +5,7 @@ ghost use Rattle.commands.specs.Formats.{how_many, shape_of, named_at, MasksOf};
 ghost use Rattle.commands.specs.Masks.{named_masks, range_masks};
 ghost use Rattle.commands.specs.Decoding.{clean};
 
-use crate::{Features, Shape};
+use crate::{Coded, Features, Shape, fields};
 
 // How many codes there are.
 pub const CODES: usize = 20;
@@ -60,24 +60,13 @@ const NH_FIRST: usize = 6;
 
 const NH_LAST: usize = 9;
 
-// The number in the bits h down to l of a command, which lie in one of its words.
-pub fn field(lo: u64, hi: u64, h: u64, l: u64) -> u64
-    requires { (l ≤ h) × (h < 128) × (h < l + 63) × (h / 64 ≡ l / 64) }
-    ensures { result ≡ part h l (joined lo hi) }
-{
-    if l < 64 {
-        return words::part(lo, h, l);
-    }
-    words::part(hi, h - 64, l - 64)
-}
-
 // What a command's range makes of its other bits.
-fn shape_of(lo: u64, hi: u64) -> Shape
-    ensures { result ≡ shape_of (joined lo hi) }
+fn shape_of(c: Coded) -> Shape
+    ensures { result ≡ shape_of (joined c.lo c.hi) }
 {
     Shape {
-        ranged: !(field(lo, hi, 75, 74) == 0),
-        hinted: !(field(lo, hi, 73, 72) == 0),
+        ranged: !(fields::TG.of(c) == 0),
+        hinted: !(fields::TTL.of(c) == 0),
     }
 }
 
@@ -141,10 +130,10 @@ fn masks(f: Features, s: Shape, k: usize) -> [u64; 2]
 }
 
 // Each bit that is set is one that the k-th code names.
-pub fn clean(f: Features, k: usize, lo: u64, hi: u64) -> bool
+pub fn clean(f: Features, k: usize, c: Coded) -> bool
     requires { k < how_many }
-    ensures { result ≡ clean f k (joined lo hi) }
+    ensures { result ≡ clean f k (joined c.lo c.hi) }
 {
-    let m = masks(f, shape_of(lo, hi), k);
-    (lo & m[0] == lo) & (hi & m[1] == hi)
+    let m = masks(f, shape_of(c), k);
+    (c.lo & m[0] == c.lo) & (c.hi & m[1] == c.hi)
 }

@@ -3,10 +3,12 @@
 
 mod decoding;
 mod feature_bits;
+pub mod fields;
 mod formats;
 
 pub use decoding::{decode, decode_at, syncs_of};
 pub use feature_bits::features_of;
+pub use fields::{Coded, Field};
 
 // What the unit is told to have.
 #[derive(Clone, Copy)]

@@ -1,9 +1,9 @@
 // The calls that store only the control word: doorbell, acknowledge, clear pending, enable or disable. Each makes one store, or none.
 #![tactic(auto)]
 
+ghost use Rattle.std.specs.Prelude.{◌≡◌};
 ghost use Rattle.words.specs.Outcomes.{Gives};
 ghost use Rattle.control_calls.specs.Calls.{doorbell, acknowledge, clear_pending, enable};
-
 
 // Why a doorbell is refused: the image, or an index that WR may not become.
 #[derive(Clone, Copy)]
@@ -13,6 +13,8 @@ pub enum DoorbellRefusal {
 }
 
 impl From<image::Refusal> for DoorbellRefusal {
+    ghost use Rattle.control_calls.specs.declared.DoorbellRefusal.{DoorbellRefusal};
+
     ghost from_gives = { λ why e. e ≡ DoorbellRefusal.Image why };
 
     fn from(why: image::Refusal) -> DoorbellRefusal {
@@ -28,6 +30,8 @@ pub enum AcknowledgeRefusal {
 }
 
 impl From<image::Refusal> for AcknowledgeRefusal {
+    ghost use Rattle.control_calls.specs.declared.AcknowledgeRefusal.{AcknowledgeRefusal};
+
     ghost from_gives = { λ why e. e ≡ AcknowledgeRefusal.Image why };
 
     fn from(why: image::Refusal) -> AcknowledgeRefusal {
@@ -43,6 +47,8 @@ pub enum ClearRefusal {
 }
 
 impl From<image::Refusal> for ClearRefusal {
+    ghost use Rattle.control_calls.specs.declared.ClearRefusal.{ClearRefusal};
+
     ghost from_gives = { λ why e. e ≡ ClearRefusal.Image why };
 
     fn from(why: image::Refusal) -> ClearRefusal {

@@ -41,10 +41,8 @@ fn gather(bytes: &[u8], out: &mut [u64], n: usize)
     requires { (8 * n ≤ length bytes.now) × (n ≤ length out.old) }
     ensures { take n out.new ≡ words_in bytes.now n }
 {
-    let mut i = 0;
-    while i < n {
+    for i in 0..n {
         out[i] = words::word_at(bytes, 8 * i);
-        i += 1;
     }
 }
 

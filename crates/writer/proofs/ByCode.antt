@@ -10,7 +10,7 @@ use Rattle.words.specs.Parts.{joined}
 use Rattle.words.specs.Ranges.{set, puts}
 use Rattle.words.specs.Search.{place_of}
 use Rattle.commands.proofs.Codes.{NoneOf, no_place}
-use Rattle.writer.specs.declared.Coded.{Coded}
+use Rattle.commands.specs.declared.Coded.{Coded}
 use Rattle.writer.specs.Layouts.{Named, number_of, bits_of, code, stream, substream, range, leaf, vmid, asid, page, ipa_page, dpt_page, cs, num, scale, tg, ttl, ttl128, size, ranged, layouts, fields_in, keys, layout_of}
 use Rattle.writer.specs.Writing.{asked, entries, whole, split, encoded}
 
@@ -26,7 +26,7 @@ split-whole lo hi h = ap₂ (λ (x y : ℕ). record { lo = x; hi = y }) (low hi 
 module _ (d : List ℕ) where
   -- the code alone; and one field more
   abbrev pub Starts : Coded → Type 0
-  Starts a = a ≡ split (set (bits_of code) (asked d (number_of code)) 0)
+  Starts a = a ≡ split (set (bits_of code) (asked d (number_of code)) (joined 0 0))
 
   abbrev pub After : Named → Coded → Coded → Type 0
   After n a b = b ≡ split (set (bits_of n) (asked d (number_of n)) (whole a))
@@ -47,6 +47,7 @@ module _ (d : List ℕ) where
   by_code k e = ap (λ (n : ℕ). puts (entries (layout_of n) d) 0) e
 
   begins : (k : ℕ) (a : Coded) → asked d 0 ≡ k → Starts a → Left (encoded d) a (get_or (map fields_in layouts) (place_of keys k) [])
+  unfolding joined
   begins k a e p = by_code k e ∙ ap (puts (entries (get_or (map fields_in layouts) (place_of keys k) []) d)) (sym (is p))
 
   goes : {t : ℕ} {b : Coded} (a : Coded) (n : Named) (fs : List Named) → Left t a (n ∷ fs) → After n a b → Left t b fs
@@ -111,6 +112,6 @@ module _ (d : List ℕ) where
 
   -- a code that is not listed has no fields
   pub has-none : (a : Coded) → NoneOf Unit keys (asked d 0) → Starts a → a ≡ split (encoded d)
-  unfolding encoded
+  unfolding encoded joined
   has-none a n p =
       p ∙ ap (λ (k : ℕ). split (puts (entries (code ∷ get_or (map fields_in layouts) k []) d) 0)) (no_place Unit keys (asked d 0) n)

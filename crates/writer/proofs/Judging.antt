@@ -26,7 +26,7 @@ use Rattle.commands.specs.Formats.{code_bits, codes, how_many}
 use Rattle.commands.specs.Decoding.{code_of, known_code, feature_present, command_of, is_legal, decode}
 use Rattle.commands.proofs.Legality.{Tests, legal-means}
 use Rattle.commands.proofs.Reasons.{tells, tells_legal, feature-absent, is-legal, legal}
-use Rattle.writer.specs.declared.Coded.{Coded}
+use Rattle.commands.specs.declared.Coded.{Coded}
 use Rattle.writer.specs.declared.Fault.{Fault}
 use Rattle.writer.specs.declared.Fault.TheVariants.{Missing, Unfit}
 use Rattle.std.specs.Prelude.{Err, Ok, Result}

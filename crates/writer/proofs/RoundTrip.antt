@@ -29,7 +29,7 @@ use Rattle.commands.specs.declared.Decoded.TheVariants.{Legal, Illegal}
 use Rattle.commands.specs.Formats.{code_bits, cs_bits, shape_of}
 use Rattle.commands.specs.Decoding.{code_of, place_in, known_code, feature_present, clean, parameter_good, command_of, decode, is_illegal}
 use Rattle.commands.proofs.Legality.{clean_means}
-use Rattle.writer.specs.declared.Coded.{Coded}
+use Rattle.commands.specs.declared.Coded.{Coded}
 use Rattle.writer.specs.declared.Fault.TheVariants.{Missing, Unfit}
 use Rattle.std.specs.Prelude.{Err, Ok}
 use Rattle.writer.specs.Layouts.{wide, layout_of, ranges, width_at, read_at, fields_of}

@@ -17,7 +17,7 @@ use Rattle.commands.specs.declared.Features.{Features}
 use Rattle.commands.specs.declared.Command.{Command}
 use Rattle.commands.specs.declared.Decoded.TheVariants.{Legal}
 use Rattle.commands.specs.Decoding.{code_of, decode, decode_at}
-use Rattle.writer.specs.declared.Coded.{Coded}
+use Rattle.commands.specs.declared.Coded.{Coded}
 use Rattle.std.specs.Prelude.{Ok}
 use Rattle.writer.specs.Layouts.{wide, fields_of}
 use Rattle.writer.specs.RoundTrip.{SlotReadsBack, WritesAgain, is_blind}

@@ -13,7 +13,7 @@ use Rattle.commands.specs.declared.Decoded.TheVariants.{Legal, Illegal}
 use Rattle.commands.specs.declared.Reason.TheVariants.{UnknownCode, FeatureAbsent, ReservedBit, BadParameter}
 use Rattle.commands.specs.Formats.{code_bits}
 use Rattle.commands.specs.Decoding.{decode, is_illegal}
-use Rattle.writer.specs.declared.Coded.{Coded}
+use Rattle.commands.specs.declared.Coded.{Coded}
 use Rattle.writer.specs.declared.Fault.{Fault}
 use Rattle.writer.specs.declared.Fault.TheVariants.{Missing, Unfit}
 use Rattle.writer.specs.declared.WriteRefusal.{WriteRefusal}

@@ -1,124 +1,136 @@
 // Document 02, T-10: each field of a command at its bits.
-ghost use Rattle.std.specs.Prelude.{◌≡◌, ◌+◌, ◌/◌, ◌≤◌, ◌<◌, length};
+ghost use Rattle.std.specs.Prelude.{◌≡◌, ◌≤◌, ◌<◌, length};
 ghost use Rattle.words.specs.Parts.{put, joined};
-ghost use Rattle.words.specs.Ranges.{set, puts};
-ghost use Rattle.writer.specs.Layouts.{wide, number_of, bits_of, code, stream, substream, range, leaf, vmid, asid, page, ipa_page, dpt_page, cs, size, ranged};
+ghost use Rattle.words.specs.Ranges.{puts};
+ghost use Rattle.writer.specs.Layouts.{wide, ranged};
 ghost use Rattle.writer.specs.Writing.{asked, entries, encoded, whole, split};
 
-use crate::Coded;
+use commands::{Coded, Field, fields};
 
-// The command with v in its bits h down to l, which lie in one of its words.
-fn put(lo: u64, hi: u64, h: u64, l: u64, v: u64) -> Coded
-    requires { (l ≤ h) × (h < 128) × (h < l + 63) × (h / 64 ≡ l / 64) }
-    ensures { result ≡ split (put h l v (joined lo hi)) }
-{
-    if l < 64 {
-        return Coded {
-            lo: words::put(lo, h, l, v),
-            hi,
-        };
+// A field that may be asked for: the number of its word among the sixteen, and its bits in the command.
+#[derive(Clone, Copy)]
+struct Named {
+    number: usize,
+    bits: Field,
+    ghost among_them: { number < wide },
+}
+
+impl Named {
+    // The command with what d asks for in this field.
+    fn put(self, c: Coded, d: &[u64]) -> Coded
+        requires { wide ≤ length d.now }
+        ensures { result ≡ split (put self.bits.high self.bits.low (asked d.now self.number) (whole c)) }
+    {
+        let v = d[self.number];
+        if self.bits.low < 64 {
+            return Coded {
+                lo: words::put(c.lo, self.bits.high, self.bits.low, v),
+                hi: c.hi,
+            };
+        }
+        Coded {
+            lo: c.lo,
+            hi: words::put(c.hi, self.bits.high - 64, self.bits.low - 64, v),
+        }
     }
-    Coded {
-        lo,
-        hi: words::put(hi, h - 64, l - 64, v),
-    }
 }
 
-fn code(d: &[u64]) -> Coded
-    requires { wide ≤ length d.now }
-    ensures { result ≡ split (set (bits_of code) (asked d.now (number_of code)) 0) }
-{
-    put(0, 0, 7, 0, d[0])
-}
+const CODE: Named = Named {
+    number: 0,
+    bits: fields::CODE,
+};
 
-fn stream(c: Coded, d: &[u64]) -> Coded
-    requires { wide ≤ length d.now }
-    ensures { result ≡ split (set (bits_of stream) (asked d.now (number_of stream)) (whole c)) }
-{
-    put(c.lo, c.hi, 63, 32, d[1])
-}
+const STREAM: Named = Named {
+    number: 1,
+    bits: fields::STREAM,
+};
 
-fn substream(c: Coded, d: &[u64]) -> Coded
-    requires { wide ≤ length d.now }
-    ensures { result ≡ split (set (bits_of substream) (asked d.now (number_of substream)) (whole c)) }
-{
-    put(c.lo, c.hi, 31, 12, d[2])
-}
+const SUBSTREAM: Named = Named {
+    number: 2,
+    bits: fields::SUBSTREAM,
+};
 
-fn range(c: Coded, d: &[u64]) -> Coded
-    requires { wide ≤ length d.now }
-    ensures { result ≡ split (set (bits_of range) (asked d.now (number_of range)) (whole c)) }
-{
-    put(c.lo, c.hi, 68, 64, d[3])
-}
+const RANGE: Named = Named {
+    number: 3,
+    bits: fields::RANGE,
+};
 
-fn leaf(c: Coded, d: &[u64]) -> Coded
-    requires { wide ≤ length d.now }
-    ensures { result ≡ split (set (bits_of leaf) (asked d.now (number_of leaf)) (whole c)) }
-{
-    put(c.lo, c.hi, 64, 64, d[4])
-}
+const LEAF: Named = Named {
+    number: 4,
+    bits: fields::LEAF,
+};
 
-fn vmid(c: Coded, d: &[u64]) -> Coded
-    requires { wide ≤ length d.now }
-    ensures { result ≡ split (set (bits_of vmid) (asked d.now (number_of vmid)) (whole c)) }
-{
-    put(c.lo, c.hi, 47, 32, d[5])
-}
+const VMID: Named = Named {
+    number: 5,
+    bits: fields::VMID,
+};
 
-fn asid(c: Coded, d: &[u64]) -> Coded
-    requires { wide ≤ length d.now }
-    ensures { result ≡ split (set (bits_of asid) (asked d.now (number_of asid)) (whole c)) }
-{
-    put(c.lo, c.hi, 63, 48, d[6])
-}
+const ASID: Named = Named {
+    number: 6,
+    bits: fields::ASID,
+};
 
-fn page(c: Coded, d: &[u64]) -> Coded
-    requires { wide ≤ length d.now }
-    ensures { result ≡ split (set (bits_of page) (asked d.now (number_of page)) (whole c)) }
-{
-    put(c.lo, c.hi, 127, 76, d[7])
-}
+const PAGE: Named = Named {
+    number: 7,
+    bits: fields::PAGE,
+};
 
-fn ipa_page(c: Coded, d: &[u64]) -> Coded
-    requires { wide ≤ length d.now }
-    ensures { result ≡ split (set (bits_of ipa_page) (asked d.now (number_of ipa_page)) (whole c)) }
-{
-    put(c.lo, c.hi, 115, 76, d[7])
-}
+const IPA_PAGE: Named = Named {
+    number: 7,
+    bits: fields::IPA_PAGE,
+};
 
-fn dpt_page(c: Coded, d: &[u64]) -> Coded
-    requires { wide ≤ length d.now }
-    ensures { result ≡ split (set (bits_of dpt_page) (asked d.now (number_of dpt_page)) (whole c)) }
-{
-    put(c.lo, c.hi, 119, 76, d[7])
-}
+const DPT_PAGE: Named = Named {
+    number: 7,
+    bits: fields::DPT_PAGE,
+};
 
-fn cs(c: Coded, d: &[u64]) -> Coded
-    requires { wide ≤ length d.now }
-    ensures { result ≡ split (set (bits_of cs) (asked d.now (number_of cs)) (whole c)) }
-{
-    put(c.lo, c.hi, 13, 12, d[8])
-}
+const CS: Named = Named {
+    number: 8,
+    bits: fields::CS,
+};
 
-fn size(c: Coded, d: &[u64]) -> Coded
-    requires { wide ≤ length d.now }
-    ensures { result ≡ split (set (bits_of size) (asked d.now (number_of size)) (whole c)) }
-{
-    put(c.lo, c.hi, 75, 72, d[14])
-}
+const NUM: Named = Named {
+    number: 9,
+    bits: fields::NUM,
+};
+
+const SCALE: Named = Named {
+    number: 10,
+    bits: fields::SCALE,
+};
+
+const TG: Named = Named {
+    number: 11,
+    bits: fields::TG,
+};
+
+const TTL: Named = Named {
+    number: 12,
+    bits: fields::TTL,
+};
+
+const TTL128: Named = Named {
+    number: 13,
+    bits: fields::TTL128,
+};
+
+const SIZE: Named = Named {
+    number: 14,
+    bits: fields::SIZE,
+};
 
 // Leaf, NUM, SCALE, TG, TTL and TTL128.
 fn ranged(c: Coded, d: &[u64]) -> Coded
     requires { wide ≤ length d.now }
     ensures { result ≡ split (puts (entries ranged d.now) (whole c)) }
 {
-    let a = leaf(c, d);
-    let num = put(a.lo, a.hi, 16, 12, d[9]);
-    let scale = put(num.lo, num.hi, 24, 20, d[10]);
-    let tg = put(scale.lo, scale.hi, 75, 74, d[11]);
-    let ttl = put(tg.lo, tg.hi, 73, 72, d[12]);
-    put(ttl.lo, ttl.hi, 71, 71, d[13])
+    let a = LEAF.put(c, d);
+    let num = NUM.put(a, d);
+    let scale = SCALE.put(num, d);
+    let tg = TG.put(scale, d);
+    let ttl = TTL.put(tg, d);
+    TTL128.put(ttl, d)
 }
 
 // The two words of the command that d asks for. A code that is not listed has no fields.
@@ -126,23 +138,23 @@ pub fn encode(d: &[u64]) -> Coded
     requires { wide ≤ length d.now }
     ensures { result ≡ split (encoded d.now) }
 {
-    let c = code(d);
+    let c = CODE.put(Coded { lo: 0, hi: 0 }, d);
     match d[0] {
-        0x03 => leaf(stream(c, d), d),
-        0x04 => range(stream(c, d), d),
-        0x05 => leaf(substream(stream(c, d), d), d),
-        0x06 => stream(c, d),
-        0x10 => vmid(c, d),
-        0x11 => asid(vmid(c, d), d),
-        0x12 => ranged(page(asid(vmid(c, d), d), d), d),
-        0x13 => ranged(page(vmid(c, d), d), d),
-        0x21 => asid(c, d),
-        0x22 => ranged(page(asid(c, d), d), d),
-        0x23 => ranged(page(c, d), d),
-        0x28 => vmid(c, d),
-        0x2A => ranged(ipa_page(vmid(c, d), d), d),
-        0x46 => cs(c, d),
-        0x73 => size(dpt_page(leaf(c, d), d), d),
+        0x03 => LEAF.put(STREAM.put(c, d), d),
+        0x04 => RANGE.put(STREAM.put(c, d), d),
+        0x05 => LEAF.put(SUBSTREAM.put(STREAM.put(c, d), d), d),
+        0x06 => STREAM.put(c, d),
+        0x10 => VMID.put(c, d),
+        0x11 => ASID.put(VMID.put(c, d), d),
+        0x12 => ranged(PAGE.put(ASID.put(VMID.put(c, d), d), d), d),
+        0x13 => ranged(PAGE.put(VMID.put(c, d), d), d),
+        0x21 => ASID.put(c, d),
+        0x22 => ranged(PAGE.put(ASID.put(c, d), d), d),
+        0x23 => ranged(PAGE.put(c, d), d),
+        0x28 => VMID.put(c, d),
+        0x2A => ranged(IPA_PAGE.put(VMID.put(c, d), d), d),
+        0x46 => CS.put(c, d),
+        0x73 => SIZE.put(DPT_PAGE.put(LEAF.put(c, d), d), d),
         _ => c,
     }
 }

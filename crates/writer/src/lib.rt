@@ -9,7 +9,7 @@ ghost use Rattle.words.specs.Outcomes.{Gives};
 ghost use Rattle.writer.specs.Layouts.{wide};
 ghost use Rattle.writer.specs.Writing.{is_absent, slot_size, judged, with_command, write};
 
-use commands::{Decoded, Features, Reason};
+use commands::{Coded, Decoded, Features, Reason};
 pub use encoding::encode;
 pub use fields::fields_of;
 
@@ -17,13 +17,6 @@ pub use fields::fields_of;
 pub const WIDE: usize = 16;
 
 pub const SLOT: usize = 16;
-
-// A command's two words.
-#[derive(Clone, Copy)]
-pub struct Coded {
-    pub lo: u64,
-    pub hi: u64,
-}
 
 // What is wrong with a command that is asked for: a feature is missing; a field does not fit, or the command would be illegal.
 #[derive(Clone, Copy)]
