@@ -4,81 +4,73 @@
 ghost use Rattle.std.specs.Prelude.{◌≡◌, true, false, ◌&&◌, ◌<◌, eqb, leb};
 ghost use Rattle.std.specs.Int.Bits.{bit_and};
 ghost use Rattle.attributes.specs.Formats as attributes;
-ghost use Rattle.rows.specs.Rows.{is_last, span, attributes_of};
-ghost use Rattle.row_forms.specs.WellFormed.{shape, only_named, known_config, ste_good, placed, in_half, begins, mark_good, good, well_formed};
+ghost use Rattle.rows.specs.Rows.{kind_number, is_last, span, attributes_of};
+ghost use Rattle.row_forms.specs.WellFormed.{only_named, known_config, ste_good, placed, in_half, begins, mark_good, good, well_formed};
 
 use rows::{
-    Row, attributes_of, config_of, kinds, marks, new_mem_attr_of, places, span_of, stream_of,
+    Kind, Mark, Row, attributes_of, config_of, new_mem_attr_of, places, span_of, stream_of,
 };
 
-// The bits that may be set in a row's four words, by its kind, not last-level and last-level.
-const NAMED: [Row; 8] = [
-    // STE
-    Row {
-        w0: 0x0000_0000_0000_07ef,
-        w1: 0x0000_0000_ffff_ffff,
-        w2: 0,
-        w3: 0,
-    },
-    // CD
-    Row {
-        w0: 0x0000_0000_0000_000f,
-        w1: 0x0000_0000_ffff_ffff,
-        w2: 0,
-        w3: 0,
-    },
-    // stage 1
-    Row {
-        w0: 0x0000_ffff_ffff_1fff,
-        w1: 0,
-        w2: 0xffff_ffff_ffff_ffff,
-        w3: 0,
-    },
-    // stage 2
-    Row {
-        w0: 0x0000_0000_ffff_07ef,
-        w1: 0,
-        w2: 0xffff_ffff_ffff_ffff,
-        w3: 0,
-    },
-    // STE, last-level
-    Row {
-        w0: 0x7fff_0000_ffff_000f,
-        w1: 0x0070_0000_ffff_ffff,
-        w2: 0,
-        w3: 0,
-    },
-    // CD, last-level
-    Row {
-        w0: 0x0000_ffff_0000_000f,
-        w1: 0x000f_ffff_ffff_ffff,
-        w2: 0,
-        w3: 0,
-    },
-    // stage 1, last-level
-    Row {
-        w0: 0x0fff_ffff_ffff_1fff,
-        w1: 0,
-        w2: 0xffff_ffff_ffff_ffff,
-        w3: 0xffff_ffff_ffff_ffff,
-    },
-    // stage 2, last-level
-    Row {
-        w0: 0x003f_0000_ffff_07ef,
-        w1: 0,
-        w2: 0xffff_ffff_ffff_ffff,
-        w3: 0xffff_ffff_ffff_ffff,
-    },
-];
+// The bits that may be set in a row's four words, by its kind, not last-level and last-level. Each stands as a constant of its own:
+// a table that is read at a place is written to the stack first.
+const STE_BLOCK: Row = Row {
+    w0: 0x0000_0000_0000_07ef,
+    w1: 0x0000_0000_ffff_ffff,
+    w2: 0,
+    w3: 0,
+};
+
+const CD_TABLE: Row = Row {
+    w0: 0x0000_0000_0000_000f,
+    w1: 0x0000_0000_ffff_ffff,
+    w2: 0,
+    w3: 0,
+};
+
+const STAGE1_TABLE: Row = Row {
+    w0: 0x0000_ffff_ffff_1fff,
+    w1: 0,
+    w2: 0xffff_ffff_ffff_ffff,
+    w3: 0,
+};
+
+const STAGE2_TABLE: Row = Row {
+    w0: 0x0000_0000_ffff_07ef,
+    w1: 0,
+    w2: 0xffff_ffff_ffff_ffff,
+    w3: 0,
+};
+
+const STE: Row = Row {
+    w0: 0x7fff_0000_ffff_000f,
+    w1: 0x0070_0000_ffff_ffff,
+    w2: 0,
+    w3: 0,
+};
+
+const CD: Row = Row {
+    w0: 0x0000_ffff_0000_000f,
+    w1: 0x000f_ffff_ffff_ffff,
+    w2: 0,
+    w3: 0,
+};
+
+const STAGE1: Row = Row {
+    w0: 0x0fff_ffff_ffff_1fff,
+    w1: 0,
+    w2: 0xffff_ffff_ffff_ffff,
+    w3: 0xffff_ffff_ffff_ffff,
+};
+
+const STAGE2: Row = Row {
+    w0: 0x003f_0000_ffff_07ef,
+    w1: 0,
+    w2: 0xffff_ffff_ffff_ffff,
+    w3: 0xffff_ffff_ffff_ffff,
+};
 
 // Output addresses, and input addresses at stage 2, have so many bits; at stage 1 those above say which half it is.
 const ADDRESS_BITS: u64 = 52;
-
-fn shape_of(row: Row) -> u64
-    ensures { (result ≡ shape row) × (result < 8) }
-{
-    words::part(row.w0, places::LAST_HIGH, places::KIND_LOW)
-}
 
 // Whether each word of a row has only the bits of its mask.
 fn inside(row: Row, m: Row) -> bool
@@ -126,31 +118,34 @@ fn in_half(a: u64) -> bool
     (above == 0) | (above == 0xfff)
 }
 
-fn begins(kind: u64, n: u64, a: u64) -> bool
+#[tactic(auto, using(rows::proofs::Numbers::same_kind), unfolding(crate::specs::WellFormed::begins))]
+fn begins(kind: Kind, n: u64, a: u64) -> bool
     requires { n < 64 }
-    ensures { result ≡ begins kind n a }
+    ensures { result ≡ begins (kind_number kind) n a }
 {
-    if kind == kinds::STAGE1 {
+    if kind == Kind::Stage1 {
         return in_half(a) & (a % words::power(n) == 0);
     }
     placed(n, a)
 }
 
-// The hypervisor's own rows: one mark, VMID 0, and an ASID or global only for EL2-E2H. Most rows are not, and leave at once.
+// The hypervisor's own rows: one mark, VMID 0, and an ASID or global only for EL2-E2H.
+#[tactic(auto, using(rows::proofs::Numbers::mark_is), unfolding(crate::specs::WellFormed::mark_good, rows::specs::Rows::parts_of))]
 fn mark_good(row: Row) -> bool
     ensures { result ≡ mark_good row }
 {
     let p = rows::parts_of(row);
-    if p.mark == marks::UNMARKED {
-        return true;
+    match p.mark {
+        Mark::Unmarked => true,
+        Mark::El2 => (p.vmid == 0) & (p.asid == 0) & !p.global,
+        Mark::El2E2h => p.vmid == 0,
+        Mark::Both => false,
     }
-    (p.vmid == 0)
-        & ((p.mark == marks::EL2_E2H) | ((p.mark == marks::EL2) & (p.asid == 0) & !p.global))
 }
 
 // A stage row: its span and its input address; and in a last-level one the output address and the attributes.
-fn input_good(row: Row, kind: u64) -> bool
-    ensures { result ≡ (leb 12 (span row) && leb (span row) 48 && begins kind (span row) row.w2) }
+fn input_good(row: Row, kind: Kind) -> bool
+    ensures { result ≡ (leb 12 (span row) && leb (span row) 48 && begins (kind_number kind) (span row) row.w2) }
 {
     let span = span_of(row);
     (12 <= span) & (span <= 48) & begins(kind, span, row.w2)
@@ -163,23 +158,27 @@ fn output_good(row: Row) -> bool
     placed(span, row.w3) & attributes::well_formed(attributes_of(row))
 }
 
-// The masks and the rules of each kind, not last-level and last-level. The masks stand at fixed places: a table that is read at
-// another is written to the stack first. Stage 2 names no bits for marks, so that there are none to look at.
+// The masks and the rules of each kind, not last-level and last-level. Stage 2 names no bits for marks, so that there are none to
+// look at.
 fn shaped(row: Row) -> bool
     ensures { result ≡ (only_named row && good row) }
 {
-    match shape_of(row) {
-        0 => inside(row, NAMED[0]) & ste_block_good(row),
-        1 => inside(row, NAMED[1]),
-        2 => inside(row, NAMED[2]) & (input_good(row, kinds::STAGE1) & mark_good(row)),
-        3 => inside(row, NAMED[3]) & input_good(row, kinds::STAGE2),
-        4 => inside(row, NAMED[4]) & ste_last_good(row),
-        5 => inside(row, NAMED[5]),
-        6 => {
-            inside(row, NAMED[6])
-                & (input_good(row, kinds::STAGE1) & output_good(row) & mark_good(row))
+    match (rows::kind_of(row), rows::is_last(row)) {
+        (Kind::Ste, false) => inside(row, STE_BLOCK) & ste_block_good(row),
+        (Kind::Cd, false) => inside(row, CD_TABLE),
+        (Kind::Stage1, false) => {
+            inside(row, STAGE1_TABLE) & (input_good(row, Kind::Stage1) & mark_good(row))
         }
-        _ => inside(row, NAMED[7]) & (input_good(row, kinds::STAGE2) & output_good(row)),
+        (Kind::Stage2, false) => inside(row, STAGE2_TABLE) & input_good(row, Kind::Stage2),
+        (Kind::Ste, true) => inside(row, STE) & ste_last_good(row),
+        (Kind::Cd, true) => inside(row, CD),
+        (Kind::Stage1, true) => {
+            inside(row, STAGE1)
+                & (input_good(row, Kind::Stage1) & output_good(row) & mark_good(row))
+        }
+        (Kind::Stage2, true) => {
+            inside(row, STAGE2) & (input_good(row, Kind::Stage2) & output_good(row))
+        }
     }
 }
 
@@ -189,7 +188,7 @@ pub fn well_formed(row: Row) -> bool
     if row.w0 == 0 {
         return true;
     }
-    if words::part(row.w0, places::VALID_HIGH, places::VALID_LOW) == 0 {
+    if places::VALID.of(row.w0) == 0 {
         return false;
     }
     shaped(row)

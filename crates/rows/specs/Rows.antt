@@ -1,9 +1,14 @@
 -- Document 01, The kept memory, with document 02, T-05: the four words of a row, and their parts.
 -- Assumes nothing.
 use Rattle.std.specs.Prelude.{ℕ, ◌+◌, ◌^◌, Bool, ◌&&◌, eqb, leb, ltb}
+use Rattle.words.specs.Choice.{pick}
 use Rattle.words.specs.Ranges.{Range, bits, get}
 use Rattle.attributes.specs.declared.Attributes.{Attributes}
 use Rattle.attributes.specs.declared.Overrides.{Overrides}
+use Rattle.rows.specs.declared.kinds.Kind.{Kind}
+use Rattle.rows.specs.declared.kinds.Kind.TheVariants.{Ste, Cd, Stage1, Stage2}
+use Rattle.rows.specs.declared.marks.Mark.{Mark}
+use Rattle.rows.specs.declared.marks.Mark.TheVariants.{Unmarked, El2, El2E2h, Both}
 use Rattle.rows.specs.declared.Row.{Row}
 use Rattle.rows.specs.declared.Parts.{Parts}
 
@@ -89,6 +94,16 @@ stage1 = 2
 abbrev pub stage2 : ℕ
 stage2 = 3
 
+-- the number of a kind, and the kind that two bits name
+abbrev pub kind_number : Kind → ℕ
+kind_number Ste = ste
+kind_number Cd = cd
+kind_number Stage1 = stage1
+kind_number Stage2 = stage2
+
+abbrev pub kind_named : ℕ → Kind
+kind_named n = pick (eqb n ste) Ste (pick (eqb n cd) Cd (pick (eqb n stage1) Stage1 Stage2))
+
 -- Document 02, T-05: the hypervisor's own stage 1 rows are marked, bit 11 for EL2 and bit 12 for EL2-E2H
 abbrev pub unmarked : ℕ
 unmarked = 0
@@ -98,6 +113,16 @@ el2 = 1
 
 abbrev pub el2_e2h : ℕ
 el2_e2h = 2
+
+-- the number of a mark, and the mark that two bits name: a row with both is ill formed
+abbrev pub mark_number : Mark → ℕ
+mark_number Unmarked = unmarked
+mark_number El2 = el2
+mark_number El2E2h = el2_e2h
+mark_number Both = el2 + el2_e2h
+
+abbrev pub mark_named : ℕ → Mark
+mark_named n = pick (eqb n unmarked) Unmarked (pick (eqb n el2) El2 (pick (eqb n el2_e2h) El2E2h Both))
 
 abbrev pub kind : Row → ℕ
 kind row = get kind_bits row.w0
@@ -149,11 +174,11 @@ privcfg row = get privcfg_bits row.w0
 unfoldable pub parts_of : Row → Parts
 parts_of row =
     record {
-      kind = kind row;
+      kind = kind_named (kind row);
       last = is_last row;
       global = is_global row;
       span = span row;
-      mark = mark row;
+      mark = mark_named (mark row);
       vmid = vmid row;
       asid = asid row;
       stream = stream row;

@@ -1,98 +1,112 @@
 // Document 01, The kept memory, with document 02, T-05: a row's parts.
 ghost use Rattle.std.specs.Prelude.{◌≡◌, ◌<◌};
-ghost use Rattle.rows.specs.Rows.{kind, is_last, span, mark, may_answer, stream, config, new_mem_attr, parts_of, overrides_of, attributes_of, covers};
+ghost use Rattle.rows.specs.Rows.{kind_number, mark_number, kind, is_last, span, mark, may_answer, stream, config, new_mem_attr, parts_of, overrides_of, attributes_of, covers};
 
-use crate::{Parts, Row, marks, places};
+use crate::{Kind, Mark, Parts, Row, places};
 use attributes::{Attributes, Overrides};
 
 // Six bits, so that a power of two of them is within the machine's reach.
 pub fn span_of(row: Row) -> u64
     ensures { (result ≡ span row) × (result < 64) }
 {
-    words::part(row.w0, places::SPAN_HIGH, places::SPAN_LOW)
+    places::SPAN.of(row.w0)
 }
 
-pub fn kind_of(row: Row) -> u64
-    ensures { result ≡ kind row }
+pub fn kind_of(row: Row) -> Kind
+    ensures { kind_number result ≡ kind row }
 {
-    words::part(row.w0, places::KIND_HIGH, places::KIND_LOW)
+    match places::KIND.of(row.w0) {
+        0 => Kind::Ste,
+        1 => Kind::Cd,
+        2 => Kind::Stage1,
+        _ => Kind::Stage2,
+    }
 }
 
 pub fn is_last(row: Row) -> bool
     ensures { result ≡ is_last row }
 {
-    words::part(row.w0, places::LAST_HIGH, places::LAST_LOW) == 1
+    places::LAST.of(row.w0) == 1
 }
 
 // Which of the hypervisor's own rows it is, or none.
-pub fn mark_of(row: Row) -> u64
-    ensures { result ≡ mark row }
+pub fn mark_of(row: Row) -> Mark
+    ensures { mark_number result ≡ mark row }
 {
-    words::part(row.w0, places::MARK_HIGH, places::MARK_LOW)
+    match places::MARK.of(row.w0) {
+        0 => Mark::Unmarked,
+        1 => Mark::El2,
+        2 => Mark::El2E2h,
+        _ => Mark::Both,
+    }
 }
 
+#[tactic(auto, using(crate::proofs::Numbers::same_mark))]
 pub fn may_answer(row: Row) -> bool
     ensures { result ≡ may_answer row }
 {
-    is_last(row) & (mark_of(row) == marks::UNMARKED)
+    is_last(row) & (mark_of(row) == Mark::Unmarked)
 }
 
 pub fn stream_of(row: Row) -> u64
     ensures { result ≡ stream row }
 {
-    words::part(row.w1, places::STREAM_HIGH, places::STREAM_LOW)
+    places::STREAM.of(row.w1)
 }
 
 pub fn config_of(row: Row) -> u64
     ensures { result ≡ config row }
 {
-    words::part(row.w1, places::CONFIG_HIGH, places::CONFIG_LOW)
+    places::CONFIG.of(row.w1)
 }
 
 // The MemAttr that MTCFG may take.
 pub fn new_mem_attr_of(row: Row) -> u64
     ensures { result ≡ new_mem_attr row }
 {
-    words::part(row.w0, places::NEW_MEMATTR_HIGH, places::NEW_MEMATTR_LOW)
+    places::NEW_MEMATTR.of(row.w0)
 }
 
+#[tactic(auto, using(crate::proofs::Numbers::kind_by_number, crate::proofs::Numbers::mark_by_number), unfolding(crate::specs::Rows::parts_of))]
 pub fn parts_of(row: Row) -> Parts
     ensures { result ≡ parts_of row }
 {
     Parts {
         kind: kind_of(row),
         last: is_last(row),
-        global: words::part(row.w0, places::GLOBAL_HIGH, places::GLOBAL_LOW) == 1,
+        global: places::GLOBAL.of(row.w0) == 1,
         span: span_of(row),
         mark: mark_of(row),
-        vmid: words::part(row.w0, places::VMID_HIGH, places::VMID_LOW),
-        asid: words::part(row.w0, places::ASID_HIGH, places::ASID_LOW),
+        vmid: places::VMID.of(row.w0),
+        asid: places::ASID.of(row.w0),
         stream: stream_of(row),
-        substream: words::part(row.w1, places::SUBSTREAM_HIGH, places::SUBSTREAM_LOW),
+        substream: places::SUBSTREAM.of(row.w1),
         config: config_of(row),
-        instcfg: words::part(row.w0, places::INSTCFG_HIGH, places::INSTCFG_LOW),
-        privcfg: words::part(row.w0, places::PRIVCFG_HIGH, places::PRIVCFG_LOW),
+        instcfg: places::INSTCFG.of(row.w0),
+        privcfg: places::PRIVCFG.of(row.w0),
     }
 }
 
+#[tactic(auto, unfolding(crate::specs::Rows::overrides_of))]
 pub fn overrides_of(row: Row) -> Overrides
     ensures { result ≡ overrides_of row }
 {
     Overrides {
-        mtcfg: words::part(row.w0, places::MTCFG_HIGH, places::MTCFG_LOW),
+        mtcfg: places::MTCFG.of(row.w0),
         memattr: new_mem_attr_of(row),
-        shcfg: words::part(row.w0, places::SHCFG_HIGH, places::SHCFG_LOW),
-        alloccfg: words::part(row.w0, places::ALLOCCFG_HIGH, places::ALLOCCFG_LOW),
+        shcfg: places::SHCFG.of(row.w0),
+        alloccfg: places::ALLOCCFG.of(row.w0),
     }
 }
 
+#[tactic(auto, unfolding(crate::specs::Rows::attributes_of))]
 pub fn attributes_of(row: Row) -> Attributes
     ensures { result ≡ attributes_of row }
 {
     Attributes {
-        memattr: words::part(row.w0, places::MEMATTR_HIGH, places::MEMATTR_LOW),
-        sh: words::part(row.w0, places::SH_HIGH, places::SH_LOW),
-        hints: words::part(row.w0, places::HINTS_HIGH, places::HINTS_LOW),
+        memattr: places::MEMATTR.of(row.w0),
+        sh: places::SH.of(row.w0),
+        hints: places::HINTS.of(row.w0),
     }
 }
 

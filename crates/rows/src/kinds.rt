@@ -1,8 +1,8 @@
-// What a row caches, by its kind.
-pub const STE: u64 = 0;
-
-pub const CD: u64 = 1;
-
-pub const STAGE1: u64 = 2;
-
-pub const STAGE2: u64 = 3;
+// What a row caches, by the two bits of its kind.
+#[derive(Clone, Copy, PartialEq, Eq)]
+pub enum Kind {
+    Ste = 0,
+    Cd = 1,
+    Stage1 = 2,
+    Stage2 = 3,
+}

@@ -2,14 +2,16 @@
 #![tactic(auto)]
 
 mod fields;
-pub mod kinds;
-pub mod marks;
+mod kinds;
+mod marks;
 pub mod places;
 
 pub use fields::{
     attributes_of, config_of, covers, is_last, kind_of, mark_of, may_answer, new_mem_attr_of,
     overrides_of, parts_of, span_of, stream_of,
 };
+pub use kinds::Kind;
+pub use marks::Mark;
 
 // The four words of a row.
 #[derive(Clone, Copy)]
@@ -23,11 +25,11 @@ pub struct Row {
 // The parts of words 0 and 1, but for the attributes.
 #[derive(Clone, Copy)]
 pub struct Parts {
-    pub kind: u64,
+    pub kind: Kind,
     pub last: bool,
     pub global: bool,
     pub span: u64,
-    pub mark: u64,
+    pub mark: Mark,
     pub vmid: u64,
     pub asid: u64,
     pub stream: u64,

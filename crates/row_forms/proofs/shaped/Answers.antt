@@ -1,76 +1,45 @@
 -- `row_forms::shaped` meets its contract, arm by arm by one law.
 -- Assumes nothing.
-use mathlib.Core.Path.{◌≡◌, sym, ◌∙◌}
-use Prim.Native.Nat.{ℕ, ◌<◌}
 use native.Mathlib.Omega.{arith}
-use Rattle.row_forms.proofs.Shapes.{last-is, by_shape}
+use Rattle.row_forms.proofs.Shapes.{by_shape}
 use Rattle.row_forms.proofs.shaped.Goals as goal
 
--- which shape is left, in two steps: one would have omega split more cases than it does
-past_two : (x : ℕ) → (x ≡ 0 → ⊥) → (x ≡ 1 → ⊥) → (x ≡ 2 → ⊥) → 2 < x
-past_two x a b c = omega arith
+pub returns-in-Ste-true : goal.returns-in-Ste-true
+returns-in-Ste-true c =
+    rw (c.ste_last_good.ensures, c.inside.ensures)
+    (by_shape c.args.row 4 (omega arith) c.in-Ste-true.ensures c.in-Ste-true.ensures' (omega arith))
 
-seven : (x : ℕ) → x < 8 → 2 < x → (x ≡ 3 → ⊥) → (x ≡ 4 → ⊥) → (x ≡ 5 → ⊥) → (x ≡ 6 → ⊥) → x ≡ 7
-seven x h l a b c d = omega arith
+pub returns-in-Ste-false : goal.returns-in-Ste-false
+returns-in-Ste-false c =
+    rw (c.ste_block_good.ensures, c.inside-in-Ste-false.ensures)
+    (by_shape c.args.row 0 (omega arith) c.in-Ste-false.ensures c.in-Ste-false.ensures' (omega arith))
 
-pub ste_block_good-requires : goal.ste_block_good-requires
-ste_block_good-requires c =
-    let arm = c in
-    last-is arm.args.row 0 (sym arm.shape_of.ensures.0 ∙ arm.in-0.is)
+pub returns-in-Cd-true : goal.returns-in-Cd-true
+returns-in-Cd-true c =
+    rw c.inside-in-Cd-true.ensures
+    (by_shape c.args.row 5 (omega arith) c.in-Cd-true.ensures c.in-Cd-true.ensures' (omega arith))
 
-pub ste_last_good-requires : goal.ste_last_good-requires
-ste_last_good-requires c =
-    let arm = c in
-    last-is arm.args.row 4 (sym arm.shape_of.ensures.0 ∙ arm.in-4.is)
+pub returns-in-Cd-false : goal.returns-in-Cd-false
+returns-in-Cd-false c =
+    rw c.inside-in-Cd-false.ensures
+    (by_shape c.args.row 1 (omega arith) c.in-Cd-false.ensures c.in-Cd-false.ensures' (omega arith))
 
-pub returns-in-0 : goal.returns-in-0
-returns-in-0 c =
-    let arm = c in
-    rw (c.ste_block_good.ensures, c.inside.ensures)
-    (by_shape arm.args.row 0 (sym arm.shape_of.ensures.0 ∙ arm.in-0.is) (omega arith))
+pub returns-in-Stage1-true : goal.returns-in-Stage1-true
+returns-in-Stage1-true c =
+    rw (c.mark_good.ensures, c.output_good.ensures, c.input_good.ensures, c.inside-in-Stage1-true.ensures)
+    (by_shape c.args.row 6 (omega arith) c.in-Stage1-true.ensures c.in-Stage1-true.ensures' (omega arith))
 
-pub returns-in-1 : goal.returns-in-1
-returns-in-1 c =
-    let arm = c in
-    rw c.inside-in-1.ensures
-    (by_shape arm.args.row 1 (sym arm.shape_of.ensures.0 ∙ arm.in-1.is) (omega arith))
+pub returns-in-Stage1-false : goal.returns-in-Stage1-false
+returns-in-Stage1-false c =
+    rw (c.mark_good-in-Stage1-false.ensures, c.input_good-in-Stage1-false.ensures, c.inside-in-Stage1-false.ensures)
+    (by_shape c.args.row 2 (omega arith) c.in-Stage1-false.ensures c.in-Stage1-false.ensures' (omega arith))
 
-pub returns-in-2 : goal.returns-in-2
-returns-in-2 c =
-    let arm = c in
-    rw (c.mark_good.ensures, c.input_good.ensures, c.inside-in-2.ensures)
-    (by_shape arm.args.row 2 (sym arm.shape_of.ensures.0 ∙ arm.in-2.is) (omega arith))
+pub returns-in-Stage2-true : goal.returns-in-Stage2-true
+returns-in-Stage2-true c =
+    rw (c.output_good-in-Stage2-true.ensures, c.input_good-in-Stage2-true.ensures, c.inside-in-Stage2-true.ensures)
+    (by_shape c.args.row 7 (omega arith) c.in-Stage2-true.ensures c.in-Stage2-true.ensures' (omega arith))
 
-pub returns-in-3 : goal.returns-in-3
-returns-in-3 c =
-    let arm = c in
-    rw (c.input_good-in-3.ensures, c.inside-in-3.ensures)
-    (by_shape arm.args.row 3 (sym arm.shape_of.ensures.0 ∙ arm.in-3.is) (omega arith))
-
-pub returns-in-4 : goal.returns-in-4
-returns-in-4 c =
-    let arm = c in
-    rw (c.ste_last_good.ensures, c.inside-in-4.ensures)
-    (by_shape arm.args.row 4 (sym arm.shape_of.ensures.0 ∙ arm.in-4.is) (omega arith))
-
-pub returns-in-5 : goal.returns-in-5
-returns-in-5 c =
-    let arm = c in
-    rw c.inside-in-5.ensures
-    (by_shape arm.args.row 5 (sym arm.shape_of.ensures.0 ∙ arm.in-5.is) (omega arith))
-
-pub returns-in-6 : goal.returns-in-6
-returns-in-6 c =
-    let arm = c in
-    rw (c.mark_good-in-6.ensures, c.output_good.ensures, c.input_good-in-6.ensures, c.inside-in-6.ensures)
-    (by_shape arm.args.row 6 (sym arm.shape_of.ensures.0 ∙ arm.in-6.is) (omega arith))
-
-pub returns-in_default : goal.returns-in_default
-returns-in_default c =
-    let arm = c in
-    let shape = arm.shape_of in
-    let low = arm.in_default.in_default-own.rest.0.0.0.0 in
-    let high = arm.in_default.in_default-own.rest in
-    let last = seven shape.result shape.ensures.1 (past_two shape.result low.0.0.1 low.0.1 low.1) high.0.0.0.1 high.0.0.1 high.0.1 high.1 in
-    rw (c.output_good-in_default.ensures, c.input_good-in_default.ensures, c.inside-in_default.ensures)
-    (by_shape arm.args.row 7 (sym shape.ensures.0 ∙ last) (omega arith))
+pub returns-in-Stage2-false : goal.returns-in-Stage2-false
+returns-in-Stage2-false c =
+    rw (c.input_good-in-Stage2-false.ensures, c.inside-in-Stage2-false.ensures)
+    (by_shape c.args.row 3 (omega arith) c.in-Stage2-false.ensures c.in-Stage2-false.ensures' (omega arith))

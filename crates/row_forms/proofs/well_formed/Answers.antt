@@ -13,15 +13,15 @@ pub returns-then-row-eq0 : goal.returns-then-row-eq0
 unfolding well_formed_by
 returns-then-row-eq0 c = rw (eq-eqb _ _ c.if-row-eq0.true)
 
-pub returns-then-part-eq0 : goal.returns-then-part-eq0
+pub returns-then-of-eq0 : goal.returns-then-of-eq0
 unfolding well_formed_by
-returns-then-part-eq0 c =
-    rw (ne_eqb _ _ c.if-row-eq0.false, sym c.part.ensures ∙ c.if-part-eq0.true)
+returns-then-of-eq0 c =
+    rw (ne_eqb _ _ c.if-row-eq0.false, sym c.of.ensures ∙ c.if-of-eq0.true)
 
 pub returns : goal.returns
 unfolding well_formed_by
 returns c =
     let valid = c in
     let start = valid in
-    let one : get valid_bits start.args.row.w0 ≡ 1 = omega (arith, valid.part.ensures, c.if-part-eq0.false, part_lt valid_bits start.args.row.w0) in
+    let one : get valid_bits start.args.row.w0 ≡ 1 = omega (arith, valid.of.ensures, c.if-of-eq0.false, part_lt valid_bits start.args.row.w0) in
     rw (ne_eqb _ _ valid.if-row-eq0.false, one) c.shaped.ensures

@@ -6,4 +6,4 @@ use Rattle.words.proofs.Parts.{part_lt}
 use Rattle.rows.proofs.fields.span_of.Goals as goal
 
 pub returns : goal.returns
-returns c = (c.part.ensures, omega (arith, c.part.ensures, part_lt span_bits c.args.row.w0))
+returns c = (c.of.ensures, omega (arith, c.of.ensures, part_lt span_bits c.args.row.w0))
