@@ -4,7 +4,7 @@
 mod invalidating;
 
 ghost use Rattle.std.specs.Prelude.{◌≡◌, ◌/◌, ◌^◌, ◌≤◌, ◌<◌, eqb};
-ghost use Rattle.rows.specs.Rows.{is_global};
+ghost use Rattle.rows.specs.Rows.{kind_number, mark_number, is_global};
 ghost use Rattle.commands.specs.declared.Command.TheVariants.{CfgiSte, CfgiSteRange, CfgiCd, CfgiCdAll, TlbiNhAll, TlbiNhAsid, TlbiNhVa, TlbiNhVaa, TlbiEl2All, TlbiEl2Asid, TlbiEl2Va, TlbiEl2Vaa, TlbiS12Vmall, TlbiS2Ipa, TlbiNsnhAll};
 ghost use Rattle.scopes.specs.Scopes.{spared, meets, ste_block, open_bits, ste_of, cd_of, cd_at, stage_of, own_of, is_e2h, stage_at, own_at, has_asid, narrow, removes, idle, regime, by_regime, in_regime, in_scope};
 ghost use Rattle.scopes.specs.Ranges.{address_of, tg_of, num_of, scale_of, granules, granule_of, first_of, length_of, reaches};
@@ -12,7 +12,7 @@ ghost use Rattle.scopes.specs.Kinds.{is_about};
 
 use commands::{Command, Features, Target};
 pub use invalidating::invalidates;
-use rows::{Row, kinds, marks};
+use rows::{Kind, Mark, Row};
 
 // The 2^span streams that are equal to one of them above their lowest span bits.
 #[derive(Clone, Copy)]
@@ -21,6 +21,7 @@ pub struct Block {
     pub span: u64,
 }
 
+#[tactic(auto, unfolding(rows::specs::Rows::parts_of))]
 fn spared(row: Row, leaf: bool) -> bool
     ensures { result ≡ spared row leaf }
 {
@@ -60,13 +61,15 @@ fn ste_block(row: Row) -> Block
     }
 }
 
+#[tactic(auto, using(rows::proofs::Numbers::same_kind, rows::proofs::Numbers::kind_read), unfolding(rows::specs::Rows::parts_of, crate::specs::Scopes::ste_of))]
 fn ste_of(row: Row, block: Block) -> bool
     requires { block.span < 64 }
     ensures { result ≡ ste_of row block }
 {
-    (rows::parts_of(row).kind == kinds::STE) & meets(ste_block(row), block)
+    (rows::parts_of(row).kind == Kind::Ste) & meets(ste_block(row), block)
 }
 
+#[tactic(auto, using(rows::proofs::Numbers::same_kind, rows::proofs::Numbers::kind_read), unfolding(rows::specs::Rows::parts_of, crate::specs::Scopes::cd_of))]
 fn cd_of(row: Row, block: Block) -> bool
     requires { block.span < 64 }
     ensures { result ≡ cd_of row block }
@@ -76,41 +79,46 @@ fn cd_of(row: Row, block: Block) -> bool
         stream: p.stream,
         span: 0,
     };
-    (p.kind == kinds::CD) & meets(own, block)
+    (p.kind == Kind::Cd) & meets(own, block)
 }
 
+#[tactic(auto, using(rows::proofs::Numbers::same_kind, rows::proofs::Numbers::kind_read), unfolding(rows::specs::Rows::parts_of, crate::specs::Scopes::cd_at))]
 fn cd_at(row: Row, stream: u64, substream: u64) -> bool
     ensures { result ≡ cd_at row stream substream }
 {
     let p = rows::parts_of(row);
-    (p.kind == kinds::CD) & (p.stream == stream) & (!p.last | (p.substream == substream))
+    (p.kind == Kind::Cd) & (p.stream == stream) & (!p.last | (p.substream == substream))
 }
 
-fn stage_of(row: Row, kind: u64, vmid: u64) -> bool
-    ensures { result ≡ stage_of row kind vmid }
+#[tactic(auto, using(rows::proofs::Numbers::same_kind, rows::proofs::Numbers::kind_read, rows::proofs::Numbers::same_mark, rows::proofs::Numbers::mark_read), unfolding(rows::specs::Rows::parts_of, crate::specs::Scopes::stage_of))]
+fn stage_of(row: Row, kind: Kind, vmid: u64) -> bool
+    ensures { result ≡ stage_of row (kind_number kind) vmid }
 {
     let p = rows::parts_of(row);
-    (p.kind == kind) & (p.mark == marks::UNMARKED) & (p.vmid == vmid)
+    (p.kind == kind) & (p.mark == Mark::Unmarked) & (p.vmid == vmid)
 }
 
 // Document 02, T-05: the hypervisor's own rows.
+#[tactic(auto, using(rows::proofs::Numbers::same_kind, rows::proofs::Numbers::kind_read, rows::proofs::Numbers::same_mark, rows::proofs::Numbers::mark_read), unfolding(rows::specs::Rows::parts_of, crate::specs::Scopes::own_of))]
 fn own_of(row: Row) -> bool
     ensures { result ≡ own_of row }
 {
     let p = rows::parts_of(row);
-    (p.kind == kinds::STAGE1) & !(p.mark == marks::UNMARKED)
+    (p.kind == Kind::Stage1) & !(p.mark == Mark::Unmarked)
 }
 
+#[tactic(auto, unfolding(crate::specs::Scopes::own_at))]
 fn own_at(row: Row, target: Target) -> bool
     ensures { result ≡ own_at row target }
 {
     own_of(row) & reaches(target, row)
 }
 
+#[tactic(auto, using(rows::proofs::Numbers::same_mark, rows::proofs::Numbers::mark_read), unfolding(rows::specs::Rows::parts_of))]
 fn is_e2h(row: Row) -> bool
     ensures { result ≡ is_e2h row }
 {
-    rows::parts_of(row).mark == marks::EL2_E2H
+    rows::parts_of(row).mark == Mark::El2E2h
 }
 
 fn address_of(page: u64) -> u64
@@ -157,18 +165,21 @@ fn reaches(target: Target, row: Row) -> bool
     words::overlap(first_of(target), length_of(target), row.w2, size)
 }
 
-fn stage_at(row: Row, kind: u64, vmid: u64, target: Target) -> bool
-    ensures { result ≡ stage_at row kind vmid target }
+#[tactic(auto, unfolding(crate::specs::Scopes::stage_at))]
+fn stage_at(row: Row, kind: Kind, vmid: u64, target: Target) -> bool
+    ensures { result ≡ stage_at row (kind_number kind) vmid target }
 {
     stage_of(row, kind, vmid) & reaches(target, row)
 }
 
+#[tactic(auto, unfolding(rows::specs::Rows::parts_of))]
 fn has_asid(row: Row, asid: u64) -> bool
     ensures { result ≡ has_asid row asid }
 {
     rows::parts_of(row).asid == asid
 }
 
+#[tactic(auto, unfolding(rows::specs::Rows::parts_of))]
 fn is_global(row: Row) -> bool
     ensures { result ≡ is_global row }
 {
@@ -215,19 +226,19 @@ fn removes_06(row: Row, stream: u64) -> bool
 fn removes_10(row: Row, vmid: u64) -> bool
     ensures { result ≡ removes (TlbiNhAll vmid) row }
 {
-    stage_of(row, kinds::STAGE1, vmid)
+    stage_of(row, Kind::Stage1, vmid)
 }
 
 fn removes_11(row: Row, vmid: u64, asid: u64) -> bool
     ensures { result ≡ removes (TlbiNhAsid vmid asid) row }
 {
-    stage_of(row, kinds::STAGE1, vmid) & has_asid(row, asid) & !is_global(row)
+    stage_of(row, Kind::Stage1, vmid) & has_asid(row, asid) & !is_global(row)
 }
 
 fn removes_12(row: Row, vmid: u64, asid: u64, target: Target) -> bool
     ensures { result ≡ removes (TlbiNhVa vmid asid target) row }
 {
-    stage_at(row, kinds::STAGE1, vmid, target)
+    stage_at(row, Kind::Stage1, vmid, target)
         & (has_asid(row, asid) | is_global(row))
         & !spared(row, target.leaf)
 }
@@ -235,7 +246,7 @@ fn removes_12(row: Row, vmid: u64, asid: u64, target: Target) -> bool
 fn removes_13(row: Row, vmid: u64, target: Target) -> bool
     ensures { result ≡ removes (TlbiNhVaa vmid target) row }
 {
-    stage_at(row, kinds::STAGE1, vmid, target) & !spared(row, target.leaf)
+    stage_at(row, Kind::Stage1, vmid, target) & !spared(row, target.leaf)
 }
 
 fn removes_20(row: Row) -> bool
@@ -268,21 +279,22 @@ fn removes_23(row: Row, target: Target) -> bool
 fn removes_28(row: Row, vmid: u64) -> bool
     ensures { result ≡ removes (TlbiS12Vmall vmid) row }
 {
-    stage_of(row, kinds::STAGE1, vmid) | stage_of(row, kinds::STAGE2, vmid)
+    stage_of(row, Kind::Stage1, vmid) | stage_of(row, Kind::Stage2, vmid)
 }
 
 fn removes_2a(row: Row, vmid: u64, target: Target) -> bool
     ensures { result ≡ removes (TlbiS2Ipa vmid target) row }
 {
-    stage_at(row, kinds::STAGE2, vmid, target) & !spared(row, target.leaf)
+    stage_at(row, Kind::Stage2, vmid, target) & !spared(row, target.leaf)
 }
 
+#[tactic(auto, using(rows::proofs::Numbers::same_kind, rows::proofs::Numbers::kind_read, rows::proofs::Numbers::same_mark, rows::proofs::Numbers::mark_read), unfolding(rows::specs::Rows::parts_of, crate::specs::Scopes::removes))]
 fn removes_30(row: Row) -> bool
     ensures { result ≡ removes TlbiNsnhAll row }
 {
     let p = rows::parts_of(row);
-    let unmarked = p.mark == marks::UNMARKED;
-    ((p.kind == kinds::STAGE1) & unmarked) | ((p.kind == kinds::STAGE2) & unmarked)
+    let unmarked = p.mark == Mark::Unmarked;
+    ((p.kind == Kind::Stage1) & unmarked) | ((p.kind == Kind::Stage2) & unmarked)
 }
 
 // Whether a row is one of those that the table names for a command.
@@ -348,27 +360,28 @@ pub fn idle(f: Features, c: Command) -> bool
 }
 
 // Document 02, T-03: whether a command is about rows of a kind at all.
-fn is_about(c: Command, kind: u64) -> bool
-    ensures { result ≡ is_about c kind }
+#[tactic(auto, using(rows::proofs::Numbers::same_kind), unfolding(crate::specs::Kinds::is_about))]
+fn is_about(c: Command, kind: Kind) -> bool
+    ensures { result ≡ is_about c (kind_number kind) }
 {
     match c {
         Command::PrefetchConfig => false,
         Command::PrefetchAddr => false,
-        Command::CfgiSte(_, _) => (kind == kinds::STE) | (kind == kinds::CD),
-        Command::CfgiSteRange(_, _) => (kind == kinds::STE) | (kind == kinds::CD),
-        Command::CfgiCd(_, _, _) => kind == kinds::CD,
-        Command::CfgiCdAll(_) => kind == kinds::CD,
-        Command::TlbiNhAll(_) => kind == kinds::STAGE1,
-        Command::TlbiNhAsid(_, _) => kind == kinds::STAGE1,
-        Command::TlbiNhVa(_, _, _) => kind == kinds::STAGE1,
-        Command::TlbiNhVaa(_, _) => kind == kinds::STAGE1,
-        Command::TlbiEl2All => kind == kinds::STAGE1,
-        Command::TlbiEl2Asid(_) => kind == kinds::STAGE1,
-        Command::TlbiEl2Va(_, _) => kind == kinds::STAGE1,
-        Command::TlbiEl2Vaa(_) => kind == kinds::STAGE1,
-        Command::TlbiS12Vmall(_) => (kind == kinds::STAGE1) | (kind == kinds::STAGE2),
-        Command::TlbiS2Ipa(_, _) => kind == kinds::STAGE2,
-        Command::TlbiNsnhAll => (kind == kinds::STAGE1) | (kind == kinds::STAGE2),
+        Command::CfgiSte(_, _) => (kind == Kind::Ste) | (kind == Kind::Cd),
+        Command::CfgiSteRange(_, _) => (kind == Kind::Ste) | (kind == Kind::Cd),
+        Command::CfgiCd(_, _, _) => kind == Kind::Cd,
+        Command::CfgiCdAll(_) => kind == Kind::Cd,
+        Command::TlbiNhAll(_) => kind == Kind::Stage1,
+        Command::TlbiNhAsid(_, _) => kind == Kind::Stage1,
+        Command::TlbiNhVa(_, _, _) => kind == Kind::Stage1,
+        Command::TlbiNhVaa(_, _) => kind == Kind::Stage1,
+        Command::TlbiEl2All => kind == Kind::Stage1,
+        Command::TlbiEl2Asid(_) => kind == Kind::Stage1,
+        Command::TlbiEl2Va(_, _) => kind == Kind::Stage1,
+        Command::TlbiEl2Vaa(_) => kind == Kind::Stage1,
+        Command::TlbiS12Vmall(_) => (kind == Kind::Stage1) | (kind == Kind::Stage2),
+        Command::TlbiS2Ipa(_, _) => kind == Kind::Stage2,
+        Command::TlbiNsnhAll => (kind == Kind::Stage1) | (kind == Kind::Stage2),
         Command::Sync(_) => false,
         Command::DptiAll => false,
         Command::DptiPa(_, _, _) => false,
@@ -376,13 +389,13 @@ fn is_about(c: Command, kind: u64) -> bool
 }
 
 // The sort of the hypervisor's own rows that E2H names.
-fn regime(f: Features) -> u64
-    ensures { result ≡ regime f }
+fn regime(f: Features) -> Mark
+    ensures { mark_number result ≡ regime f }
 {
     if f.e2h {
-        return marks::EL2_E2H;
+        return Mark::El2E2h;
     }
-    marks::EL2
+    Mark::El2
 }
 
 // Whether a command is about rows of that sort alone: 22 and 23.
@@ -413,6 +426,7 @@ fn by_regime(c: Command) -> bool
     }
 }
 
+#[tactic(auto, using(rows::proofs::Numbers::same_mark, rows::proofs::Numbers::mark_read), unfolding(crate::specs::Scopes::in_regime))]
 fn in_regime(f: Features, c: Command, row: Row) -> bool
     ensures { result ≡ in_regime f c row }
 {

@@ -71,7 +71,14 @@ fn next_nearby(kept: &[u64], address: u64, from: usize, to: usize) -> Option<usi
 }
 
 // Of those, rows whose word 0 has the value under the mask.
-pub fn next(kept: &[u64], mask: u64, value: u64, address: u64, from: usize, to: usize) -> Option<usize>
+pub fn next(
+    kept: &[u64],
+    mask: u64,
+    value: u64,
+    address: u64,
+    from: usize,
+    to: usize,
+) -> Option<usize>
     requires { Within kept.now from to }
     ensures { result ≡ lowest_from (λ j. covering mask value address (row_at kept.now j)) from to }
 {

@@ -14,7 +14,6 @@ mod used;
 ghost use Rattle.std.specs.Prelude.{◌≡◌};
 ghost use Rattle.screens.specs.Screens.{ahead, next_of, Within};
 
-
 // What a row must be like.
 #[derive(Clone, Copy)]
 pub enum Screen {

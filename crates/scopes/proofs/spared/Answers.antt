@@ -1,8 +1,0 @@
--- `scopes::spared` meets its contract.
--- Assumes nothing.
-use Rattle.rows.specs.Rows.{parts_of}
-use Rattle.scopes.proofs.spared.Goals as goal
-
-pub returns : goal.returns
-unfolding parts_of
-returns c = rw c.parts_of.ensures
