@@ -4,9 +4,10 @@
 ghost use Rattle.std.specs.Prelude.{◌≡◌, ◌+◌, ◌*◌, ◌≤◌, length};
 ghost use Rattle.doubles.specs.Doubles.{same_context, shares_address, shares_stage, shares_asid, shares, collides, collides_at, screen_of, doubled};
 
-use rows::{Row, kinds};
+use rows::{Kind, Row};
 use screens::{Screen, answering, places};
 
+#[tactic(auto, unfolding(rows::specs::Rows::parts_of))]
 fn same_context(a: Row, b: Row) -> bool
     ensures { result ≡ same_context a b }
 {
@@ -26,12 +27,14 @@ fn shares_address(a: Row, b: Row) -> bool
     )
 }
 
+#[tactic(auto, unfolding(rows::specs::Rows::parts_of))]
 fn shares_stage(a: Row, b: Row) -> bool
     ensures { result ≡ shares_stage a b }
 {
     (rows::parts_of(a).vmid == rows::parts_of(b).vmid) & shares_address(a, b)
 }
 
+#[tactic(auto, unfolding(rows::specs::Rows::parts_of))]
 fn shares_asid(a: Row, b: Row) -> bool
     ensures { result ≡ shares_asid a b }
 {
@@ -40,23 +43,20 @@ fn shares_asid(a: Row, b: Row) -> bool
     (p.asid == q.asid) | p.global | q.global
 }
 
+#[tactic(auto, unfolding(crate::specs::Doubles::shares))]
 fn shares(a: Row, b: Row) -> bool
     ensures { result ≡ shares a b }
 {
-    let kind = rows::kind_of(a);
-    if kind == kinds::STE {
-        return rows::stream_of(a) == rows::stream_of(b);
+    match rows::kind_of(a) {
+        Kind::Ste => rows::stream_of(a) == rows::stream_of(b),
+        Kind::Cd => same_context(a, b),
+        Kind::Stage1 => shares_stage(a, b) & shares_asid(a, b),
+        Kind::Stage2 => shares_stage(a, b),
     }
-    if kind == kinds::CD {
-        return same_context(a, b);
-    }
-    if kind == kinds::STAGE2 {
-        return shares_stage(a, b);
-    }
-    shares_stage(a, b) & shares_asid(a, b)
 }
 
 // An empty row is not last-level, so it collides with none, and neither does a marked one.
+#[tactic(auto, using(rows::proofs::Numbers::same_kind), unfolding(crate::specs::Doubles::collides))]
 pub fn collides(a: Row, b: Row) -> bool
     ensures { result ≡ collides a b }
 {
@@ -74,24 +74,24 @@ fn collides_at(kept: &[u64], words: Row, i: usize) -> bool
 }
 
 // What a row must be like to collide with words that may answer. A last byte past the top is taken around it.
+#[tactic(auto, unfolding(crate::specs::Doubles::screen_of))]
 fn screen_of(words: Row) -> Screen
     ensures { result ≡ screen_of words }
 {
-    let kind = rows::kind_of(words);
     let stream = rows::stream_of(words);
-    if kind == kinds::STE {
-        return Screen::Named(answering::KIND, answering::STE, places::STREAM, stream);
+    match rows::kind_of(words) {
+        Kind::Ste => Screen::Named(answering::KIND, answering::STE, places::STREAM, stream),
+        Kind::Cd => Screen::Named(answering::KIND, answering::CD, places::STREAM, stream),
+        Kind::Stage1 | Kind::Stage2 => {
+            let more = words::power(rows::span_of(words)) - 1;
+            Screen::Reaching(
+                answering::KIND_VMID,
+                words.w0 & answering::KIND_VMID,
+                std::num::wrapping_add_u64(words.w2, more),
+                more,
+            )
+        }
     }
-    if kind == kinds::CD {
-        return Screen::Named(answering::KIND, answering::CD, places::STREAM, stream);
-    }
-    let more = words::power(rows::span_of(words)) - 1;
-    Screen::Reaching(
-        answering::KIND_VMID,
-        words.w0 & answering::KIND_VMID,
-        std::num::wrapping_add_u64(words.w2, more),
-        more,
-    )
 }
 
 // Whether the words collide with one of the first n rows. Only rows that the screen lets through are asked.

@@ -3,7 +3,7 @@ ghost use Rattle.std.specs.Prelude.{◌+◌, ◌*◌, ◌≤◌, length};
 
 use crate::files;
 use commands::Features;
-use rows::{Row, kinds, marks};
+use rows::{Kind, Mark, Row};
 use std::io;
 use std::io::Write;
 use text::{one, say, two};
@@ -167,7 +167,7 @@ fn collides(low: Row, high: Row) -> bool {
 fn shadows(low: Row, high: Row) -> bool {
     let p = rows::parts_of(low);
     let q = rows::parts_of(high);
-    if !((q.span <= p.span) & ((p.kind != kinds::STAGE1) | p.global | !q.global)) {
+    if !((q.span <= p.span) & ((p.kind != Kind::Stage1) | p.global | !q.global)) {
         return false;
     }
     collides(low, high)
@@ -188,14 +188,14 @@ fn marked(out: &mut impl Write, kept: &[u64], f: Features) -> io::Result<bool> {
 
 fn marked_told(out: &mut impl Write, i: u64, row: Row) -> io::Result<bool> {
     let p = rows::parts_of(row);
-    if (row.w0 == 0) | (p.kind != kinds::STAGE1) | (p.mark == marks::UNMARKED) {
+    if (row.w0 == 0) | (p.kind != Kind::Stage1) | (p.mark == Mark::Unmarked) {
         return Ok(false);
     }
     two(
         &mut *out,
         b"  row # is the hypervisor's ({|EL2|EL2-E2H|both}), and without Hyp and S1P no command removes it\n",
         i,
-        p.mark,
+        p.mark as u64,
     )?;
     Ok(true)
 }

@@ -1,6 +1,6 @@
 // The rows of the kept memory, each by what it caches (document 01, The kept memory; document 02, T-04 and T-05).
 use crate::{attribute_text, files};
-use rows::{Parts, Row, kinds, marks};
+use rows::{Kind, Mark, Parts, Row};
 use std::io;
 use std::io::Write;
 use text::{bit, one, say, three, told as said, two};
@@ -41,12 +41,11 @@ fn row_told(out: &mut impl Write, i: u64, row: Row) -> io::Result<bool> {
 
 fn described(out: &mut impl Write, row: Row) -> io::Result<()> {
     let p = rows::parts_of(row);
-    let kind = p.kind;
-    match kind {
-        kinds::STE => ste(&mut *out, row, p),
-        kinds::CD => cd(&mut *out, p),
-        kinds::STAGE1 => stage1(&mut *out, row, p),
-        _ => stage2(&mut *out, row, p),
+    match p.kind {
+        Kind::Ste => ste(&mut *out, row, p),
+        Kind::Cd => cd(&mut *out, p),
+        Kind::Stage1 => stage1(&mut *out, row, p),
+        Kind::Stage2 => stage2(&mut *out, row, p),
     }
 }
 
@@ -97,12 +96,12 @@ fn stage1(out: &mut impl Write, row: Row, p: Parts) -> io::Result<()> {
         &mut *out,
         b"stage 1, {not last-level|last-level}{|, EL2|, EL2-E2H|, EL2 and EL2-E2H}",
         bit(p.last),
-        p.mark,
+        p.mark as u64,
     )?;
-    if (p.mark == marks::UNMARKED) | (p.vmid != 0) {
+    if (p.mark == Mark::Unmarked) | (p.vmid != 0) {
         one(&mut *out, b", VMID 0x$", p.vmid)?;
     }
-    if (p.mark != marks::EL2) | (p.asid != 0) {
+    if (p.mark != Mark::El2) | (p.asid != 0) {
         one(&mut *out, b", ASID 0x$", p.asid)?;
     }
     one(&mut *out, b"{|, global}", bit(p.global))?;

@@ -5,7 +5,7 @@ ghost use Rattle.std.specs.Prelude.{◌≡◌, ◌+◌, ◌*◌, ◌≤◌, leng
 ghost use Rattle.image.specs.Image.{rows_in};
 ghost use Rattle.lookups.specs.Lookups.{fits, answers, answers_at, screen_of, find, look};
 
-use rows::{Row, kinds};
+use rows::{Kind, Row};
 use screens::{Screen, answering, places};
 
 // What a step looks for: the STE row of a stream, the CD row of a stream and a substream, the stage 1 row of a VMID,
@@ -18,23 +18,24 @@ pub enum Wanted {
     Stage2(u64, u64),
 }
 
+#[tactic(auto, using(rows::proofs::Numbers::same_kind, rows::proofs::Numbers::kind_read), unfolding(crate::specs::Lookups::fits, rows::specs::Rows::parts_of))]
 fn fits(w: Wanted, row: Row) -> bool
     ensures { result ≡ fits w row }
 {
     let p = rows::parts_of(row);
     match w {
-        Wanted::Ste(stream) => (p.kind == kinds::STE) & (p.stream == stream),
+        Wanted::Ste(stream) => (p.kind == Kind::Ste) & (p.stream == stream),
         Wanted::Cd(stream, substream) => {
-            (p.kind == kinds::CD) & (p.stream == stream) & (p.substream == substream)
+            (p.kind == Kind::Cd) & (p.stream == stream) & (p.substream == substream)
         }
         Wanted::Stage1(vmid, asid, address) => {
-            (p.kind == kinds::STAGE1)
+            (p.kind == Kind::Stage1)
                 & (p.vmid == vmid)
                 & (p.global | (p.asid == asid))
                 & rows::covers(row, address)
         }
         Wanted::Stage2(vmid, address) => {
-            (p.kind == kinds::STAGE2) & (p.vmid == vmid) & rows::covers(row, address)
+            (p.kind == Kind::Stage2) & (p.vmid == vmid) & rows::covers(row, address)
         }
     }
 }

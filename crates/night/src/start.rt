@@ -41,7 +41,7 @@ fn stream(out: &mut impl Write, r: Row) -> io::Result<()> {
     told(
         &mut *out,
         b"{STE|CD|stage 1|stage 2}{|, last-level}, VMID #, StreamID #, Config #\n",
-        [p.kind, bit(p.last), p.vmid, p.stream, p.config, 0, 0, 0],
+        [p.kind as u64, bit(p.last), p.vmid, p.stream, p.config, 0, 0, 0],
     )
 }
 
@@ -51,7 +51,7 @@ fn mapping(out: &mut impl Write, r: Row) -> io::Result<()> {
     told(
         &mut *out,
         b"{STE|CD|stage 1|stage 2}{|, last-level}, VMID #, ASID #, span #, from 0x$ to 0x$\n",
-        [p.kind, bit(p.last), p.vmid, p.asid, p.span, r.w2, r.w3, 0],
+        [p.kind as u64, bit(p.last), p.vmid, p.asid, p.span, r.w2, r.w3, 0],
     )
 }
 
