@@ -1,6 +1,6 @@
 -- The masks and the rules of a shape say of each row of that shape whether it has only named parts and is good.
 -- Assumes nothing.
-use mathlib.Core.Path.{◌≡◌, refl, sym, ap, ◌∙◌}
+use mathlib.Core.Path.{◌≡◌, refl, ap, ◌∙◌}
 use mathlib.Core.Bool.{Bool, true, false, not, ◌&&◌, ◌||◌}
 use mathlib.Core.Logic.{⊎_elim}
 use Prim.Native.Nat.{ℕ, ◌+◌, ◌*◌, ◌/◌, ◌%◌, ◌^◌, ◌<◌}
@@ -11,8 +11,6 @@ use lib.ListN.{get_or}
 use borrow.Author.Tests.{eqb-true, eqb-false}
 use Rattle.words.specs.Choice.{pick}
 use Rattle.words.specs.Parts.{part}
-use Rattle.words.specs.Ranges.{bits}
-use Rattle.words.proofs.Parts.{part_lt}
 use Rattle.words.proofs.Truth.{decided}
 use Rattle.attributes.specs.Formats as attributes
 use Rattle.rows.specs.declared.Row.{Row}
@@ -20,7 +18,7 @@ use Rattle.rows.specs.Rows.{ste, cd, stage1, kind, is_last, span, attributes_of}
 use Rattle.row_forms.specs.WellFormed.{shape, only_named, ste_good, placed, begins, mark_good, stage_good_by, stage_good, good, good_by}
 use Rattle.row_forms.proofs.Masks.{masks, tests}
 use Rattle.row_forms.proofs.Halves.{unmarked-good}
-use Rattle.row_forms.proofs.Marks.{shape-kind, stage1-alone-marked}
+use Rattle.row_forms.proofs.Marks.{stage1-alone-marked}
 
 pub record Words (row : Row) : Type 0 where
   pub w0 : row.w0 < 2 ^ 64
