@@ -1,7 +1,6 @@
 // The recorder's kept memory: an index word, then 2^n slots of four words.
 #![tactic(auto)]
 
-
 mod places;
 mod stores;
 mod word;
@@ -32,6 +31,7 @@ pub enum Refusal {
 }
 
 // The record of 32 bytes.
+#[tactic(auto, unfolding(crate::specs::Events::record_of))]
 pub fn record_of(bytes: &[u8; 32]) -> Record
     ensures { result ≡ record_of bytes.now }
 {
@@ -44,6 +44,7 @@ pub fn record_of(bytes: &[u8; 32]) -> Record
 }
 
 // The record in slot i.
+#[tactic(auto, unfolding(crate::specs::Events::record_at))]
 pub fn record_at(kept: &[u64], i: usize) -> Record
     requires { 4 * i + 5 ≤ length kept.now }
     ensures { result ≡ record_at kept.now i }
@@ -58,6 +59,7 @@ pub fn record_at(kept: &[u64], i: usize) -> Record
 }
 
 // Whether there are words for 2^n slots and no others.
+#[tactic(auto, unfolding(crate::specs::Events::is_long))]
 fn is_long(kept: &[u64], n: usize) -> bool
     requires { n ≤ max_log2 }
     ensures { result ≡ is_long kept.now n }
@@ -66,30 +68,21 @@ fn is_long(kept: &[u64], n: usize) -> bool
     kept.len() as u64 == size
 }
 
+#[tactic(auto, unfolding(crate::specs::Events::log2_of))]
 fn log2_of(kept: &[u64]) -> Option<usize>
     ensures { result ≡ log2_of kept.now }
 {
-    let mut n = 0;
-    while n < MAX_LOG2 + 1 {
-        if is_long(kept, n) {
-            return Some(n);
-        }
-        n += 1;
-    }
-    None
+    words::lowest_in(0, MAX_LOG2 + 1, |n| is_long(kept, n))
 }
 
 // n as the length says it, or refusal 15 or 16.
+#[tactic(auto, unfolding(crate::specs::Events::check))]
 pub fn check(kept: &[u64]) -> Result<usize, Refusal>
     ensures { result ≡ check kept.now }
 {
-    match log2_of(kept) {
-        None => Err(Refusal::BadLength),
-        Some(n) => {
-            if !word::well_formed(n as u64, kept[0]) {
-                return Err(Refusal::BadIndex);
-            }
-            Ok(n)
-        }
+    let n = log2_of(kept).ok_or(Refusal::BadLength)?;
+    if !word::well_formed(n as u64, kept[0]) {
+        return Err(Refusal::BadIndex);
     }
+    Ok(n)
 }
