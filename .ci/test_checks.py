@@ -96,6 +96,9 @@ def groups():
     law = './proofs/Laws.antt:1:2: error: `keeps`: expected type `a`, but this has type `b`\n'
     expect('a law', refusals.own_reason(law, 'c', 'Laws.keeps') is None)
     expect('another law', refusals.own_reason(law, 'c', 'Laws.keep') is not None)
+    method = 'note: src/lib.rt:1:1: it is not proved that what the function ensures holds (`returns`)\nfn c::Part::of: no proof: `search` did not prove `returns`\n'
+    expect('a method of a type', refusals.own_reason(method, 'c', 'Part::of.returns') is None)
+    expect('another method', refusals.own_reason(method, 'c', 'Part::put.returns') is not None)
 
 
 def left_by_search():
@@ -128,6 +131,8 @@ def stores():
     expect('a step may store', writes.wrong('fills', step) == [])
     expect('a step of another crate may not', len(writes.wrong('image', step)) == 1)
     expect('a step may not store twice', len(writes.wrong('fills', step.replace('= 0;', '= 0;\n    kept[0] = 1;'))) == 1)
+    bounded = step.replace('fn step(', "fn step<'a, T: Into<u64>, F: Fn(usize) -> bool>(passes: F, ")
+    expect('a function with bounds is seen', len(writes.wrong('image', bounded)) == 1 and bounded != step)
     expect('a run may not store', len(writes.wrong('runs', step.replace('fn step', 'pub fn go'))) == 1)
     expect('nor add to a word', len(writes.wrong('runs', step.replace('fn step', 'pub fn go').replace('] = 0', '] += 1'))) == 1)
     expect('reading and comparing is free', writes.wrong('runs', 'fn go(kept: &mut [u64]) -> bool\n{\n    kept[0] == 1\n}\n') == [])

@@ -54,7 +54,7 @@ ASSIGNS = r'(<<|>>|[-+*/%&|^])?='
 def functions(text):
     """Each function of a source: its name, its parameters and its body."""
     text = re.sub(QUOTED, '', text)
-    for found in re.finditer(r'\bfn\s+(\w+)\s*(?:<[^>]*>)?\s*\(', text):
+    for found in re.finditer(r'\bfn\s+(\w+)\s*(?:<(?:[^<>]|->|<[^<>]*>)*>)?\s*\(', text):
         depth, at = 1, found.end()
         while depth:
             depth += {'(': 1, ')': -1}.get(text[at], 0)

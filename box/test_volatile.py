@@ -5,7 +5,7 @@ sys.dont_write_bytecode = True
 import volatile
 
 # A word of a slice, two bytes of a slot, an answer by a copy, a mark; a function that writes to its own frame and to its result, one
-# that hands on where its own result goes, and one that has it put into its frame.
+# that hands on where its own result goes, and one that has it put into its frame; a loop over a slice, whose state is in a frame.
 PLAIN = '''target datalayout = "e-m:e-i64:64-S128"
 target triple = "x86_64-unknown-linux-gnu"
 
@@ -71,6 +71,30 @@ start:
   ret i64 0
 }
 
+define internal { i8, ptr } @"core::slices::Iter::next::<i8>"(ptr noundef %a0) #0 {
+start:
+  %r0 = getelementptr i8, ptr %a0, i64 8
+  store i64 1, ptr %r0, align 8
+  ret { i8, ptr } zeroinitializer
+}
+
+define internal noundef zeroext i1 @"core::Iterator::all::<#c98aff49>"(ptr noundef %a0, i64 noundef %a1) #0 {
+start:
+  %r5 = alloca ptr, align 8
+  store ptr %a0, ptr %r5, align 8
+  %r6 = load ptr, ptr %r5, align 8, !noundef !1
+  %r7 = call { i8, ptr } @"core::slices::Iter::next::<i8>"(ptr %r6)
+  ret i1 true
+}
+
+define internal noundef i64 @"unit::fn::loops::all+FnMut::call_mut"(ptr noundef %a0) #0 {
+start:
+  %r8 = alloca [16 x i8], align 8
+  store ptr %a0, ptr %r8, align 8
+  %r9 = call i1 @"core::Iterator::all::<#c98aff49>"(ptr %r8, i64 1)
+  ret i64 0
+}
+
 attributes #0 = { nounwind "probe-stack"="inline-asm" "target-cpu"="x86-64-v2" }
 '''
 LENT = {('unit', 'put'): 1, ('unit', 'bytes'): 2}
@@ -82,6 +106,7 @@ BYTES = ['  store i8 %a1, ptr %r0, align 1', '  store i8 %a1, ptr %r1, align 1']
 ANSWER, MARK = '  call void @llvm.memmove.p0.p0.i64(ptr %a0, ptr %a1, i64 64, i1 false)', '  store i8 1, ptr %r0, align 1'
 HANDED = '  call void @"unit::handed"(ptr noundef %r1, ptr %a0)'
 FRAME, SECOND = '  store i64 %a1, ptr %r1, align 8', '  store i64 0, ptr %r1, align 8'
+HOLDS, LOOPS = '  store ptr %a0, ptr %r5, align 8', '  %r9 = call i1 @"core::Iterator::all::<#c98aff49>"(ptr %r8, i64 1)'
 FAILED = []
 
 
@@ -129,6 +154,17 @@ def choosing():
         ('one that goes to lent memory', 'call writes 2 times', ('  call void @call(ptr %a0, ptr %a1)', '  call void @call(ptr %a1, ptr %a1)\n')),
         ('one that is handed on to it', 'call writes 2 times', (HANDED, '  call void @"unit::handed"(ptr noundef %a0, ptr %a0)\n')),
         ('by one of two calls', 'call writes 2 times', (HANDED, HANDED + '\n  call void @call(ptr %a0, ptr %a0)\n')),
+        ('a loop\'s state in lent memory', 'next writes 1 times', (LOOPS, LOOPS.replace('%r8', '%a0') + '\n')),
+        ('by one of two loops', 'next writes 1 times', (LOOPS, LOOPS + '\n' + LOOPS.replace('%r8', '%a0').replace('%r9', '%r10') + '\n')),
+        ('a place that holds another pointer', 'next writes 1 times', (HOLDS, '  store ptr @word, ptr %r5, align 8\n')),
+        ('one of two', 'next writes 1 times', (HOLDS, HOLDS + '\n  store ptr @word, ptr %r5, align 8\n')),
+        ('what a copy put there', 'next writes 1 times', (HOLDS, HOLDS + '\n' + copy % '%r5')),
+        ('a place that is handed on', 'next writes 1 times', (HOLDS, HOLDS + '\n  call void @"unit::mark"(ptr %r5)\n')),
+        ('one whose place is kept', 'next writes 1 times', (HOLDS, HOLDS + '\n  store ptr %r5, ptr %r6, align 8\n'), ('  %r7 = call { i8, ptr } @"core::slices::Iter::next::<i8>"(ptr %r6)', '  %r7 = call { i8, ptr } @"core::slices::Iter::next::<i8>"(ptr %r6)\n')),
+        ('a function that is kept', 'next writes 1 times', (HOLDS, HOLDS + '\n  store ptr @"core::slices::Iter::next::<i8>", ptr %r9, align 8\n')),
+        ('one that is handed on', 'next writes 1 times', (HOLDS, HOLDS + '\n  call void @"unit::mark"(ptr @"core::slices::Iter::next::<i8>")\n')),
+        ('one that nothing calls', 'next writes 1 times', ('  %r7 = call { i8, ptr } @"core::slices::Iter::next::<i8>"(ptr %r6)', '')),
+        ('one that others can call', 'next writes 1 times', ('define internal { i8, ptr } @"core::slices::Iter::next::<i8>"(ptr noundef %a0) #0 {', 'define { i8, ptr } @"core::slices::Iter::next::<i8>"(ptr noundef %a0) #0 {\n')),
         ('a mark already', 'otherwise than by a plain store', (WORD, marked(WORD))),
         ('an exchange', 'otherwise than by a plain store', (WORD, '  %r4 = atomicrmw xchg ptr %r3, i64 %a1 seq_cst, align 8\n')),
         ('no function of that name', 'put is not there', ('define internal void @"unit::parts::put"(ptr noundef %a0, i64 noundef %a1) #0 {', 'define internal void @"unit::puts"(ptr noundef %a0, i64 noundef %a1) #0 {\n'), (WORD, '')),

@@ -5,11 +5,12 @@
 
 A compiler may merge plain stores, drop them and exchange them; of volatile ones it makes each as it stands, and in their order.
 
-A store is to lent memory if its pointer is not of its function's own frame: neither an alloca nor an element of one. Every function
-of the text has to have as many writes of this kind as its source has stores, by the tables of .ci/writes.py, and one that is not in
-them none. The stores of the first table are marked, and nothing of the second, where an answer's is a copy. A function that returns
-nothing may write its result through its first parameter. That is no such write where every call of it hands over a place of the
-caller's own frame, or where the caller's own result goes. The FUNCTIONs stand in for the tables, for another text.
+A store is to lent memory if its pointer is not of a frame of the text: neither an alloca nor an element of one, nor what a place for
+one pointer holds, where nothing but these is stored there. Every function of the text has to have as many writes of this kind as its
+source has stores, by the tables of .ci/writes.py, and one that is not in them none. The stores of the first table are marked, and
+nothing of the second, where an answer's is a copy. A function may write its result, or what it is lent to change (the state of a loop
+over a slice), through a parameter. That is no such write where every call of it hands over a place of the caller's frame, or of a
+frame that the caller was handed so. The FUNCTIONs stand in for the tables, for another text.
 """
 import os
 import re
@@ -18,10 +19,14 @@ import sys
 sys.path.append(os.path.join(os.path.dirname(os.path.abspath(__file__)), '..', '.ci'))
 import writes
 
-DEFINE = r'define (.*?)@"?([\w:.]+)"?\((?:ptr (?:\w+ )*(%[\w.]+))?'
-OWN = r'  (%[\w.]+) = (?:(alloca) |getelementptr .*?, ptr ([^\s,]+))'
+NAME = r'@(?:"([^"]+)"|([\w.:]+))'
+DEFINE = r'define (.*?)' + NAME + r'\((.*)\)'
+CALL = r'  (?:%[\w.]+ = )?(?:tail )?call .*?' + NAME + r'\((.*)\)'
+OWN = r'  (%[\w.]+) = (?:alloca |getelementptr .*?, ptr ([^\s,]+))'
+SLOT = r'  (%[\w.]+) = alloca ptr,'
+HELD = r'  store ptr (\S+), ptr (%[\w.]+)(?:,|$)'
+LOADED = r'  (%[\w.]+) = load ptr, ptr (%[\w.]+)(?:,|$)'
 STORE = r'  store .*, ptr (\S+?)(?:,|$)'
-CALL = r'  (?:tail )?call void @"?([\w:.]+)"?\(ptr (?:\w+ )*([^\s,)]+)'
 COPY = r'  (?:tail )?call void @llvm\.mem[\w.]+\(ptr (?:\w+ )*([^\s,]+)'
 UNKNOWN = r'  .*\b(?:store (?:volatile|atomic)|atomicrmw|cmpxchg|asm|llvm\.masked)\b'
 TARGET = r'target (?:datalayout|triple) = "'
@@ -33,54 +38,107 @@ class Wrong(Exception):
 
 
 def key(name):
-    """A function as the tables have it: its crate and its name, without the modules between."""
-    parts = name.split('::')
+    """A function as the tables have it: its crate and its name, without the modules between and the types that it is for."""
+    parts = name.split('::<')[0].split('::')
     return parts[0], parts[-1]
 
 
+def pointers(words):
+    """The pointers among parameters or arguments: the place of each, with its name."""
+    depth, one, split = 0, '', []
+    for letter in words + ',':
+        depth += (letter in '({[<') - (letter in ')}]>')
+        if letter == ',' and not depth:
+            split.append(one.split())
+            one = ''
+        else:
+            one += letter
+    return {place: words[-1] for place, words in enumerate(split) if words[:1] == ['ptr']}
+
+
 def functions(text):
-    """Each function of a text: its name, its first parameter if that is a pointer and it returns nothing, and its numbered lines."""
+    """Each function of a text: its name, its parameters that may be places of a caller's frame, its numbered lines, and its places for
+    one pointer. Such parameters are the pointers of one that this text alone can call, and the first of one that returns nothing, for
+    its result."""
     found = []
     for number, line in enumerate(text.split('\n')):
         if line.startswith('define '):
-            define = re.match(DEFINE, line)
-            found.append((define.group(2), define.group(3) if define.group(1).split()[-1] == 'void' else None, []))
+            how, quoted, plain, words = re.match(DEFINE, line).groups()
+            given = pointers(words)
+            if not how.startswith('internal '):
+                given = {0: given[0]} if 0 in given and how.split()[-1] == 'void' else {}
+            found.append((quoted or plain, given, []))
         elif found:
             found[-1][2].append((number, line))
-    return found
+    return [(name, given, lines, slots(lines)) for name, given, lines in found]
 
 
-def own_places(lines, result):
-    """A function's pointers to its own frame, and to where its result goes, if that is given."""
-    own = {result} - {None}
+def slots(lines):
+    """The places of a frame for one pointer each, with what is stored there, which nothing else reaches than these stores and loads."""
+    held = {re.match(SLOT, line).group(1): set() for _, line in lines if re.match(SLOT, line)}
     for _, line in lines:
-        place = re.match(OWN, line)
-        if place and (place.group(2) or place.group(3) in own):
-            own.add(place.group(1))
-    return own
+        stored, loaded = re.match(HELD, line), re.match(LOADED, line)
+        if stored and stored.group(2) in held:
+            held[stored.group(2)].add(stored.group(1))
+        reached = [stored.group(1)] if stored else [] if loaded or re.match(SLOT, line) else re.findall(r'%[\w.]+', line)
+        for name in reached:
+            held.pop(name, None)
+    return held
 
 
-def results(found):
-    """The functions whose first parameter is where their result goes, which is in a frame, each with that parameter."""
-    may = {name: first for name, first, _ in found if first}
+def own_places(lines, held, given):
+    """A function's pointers to its own frame, and to its callers' where these are given."""
+    held = dict(held)
+    made = [re.match(OWN, line) or re.match(LOADED, line) for _, line in lines]
+    made = [(found.group(1), found.group(2), found.re.pattern == LOADED) for found in made if found]
+    while True:
+        own = set(given)
+        for name, of, loaded in made:
+            if not of or (of in held if loaded else of in own):
+                own.add(name)
+        wrong = [slot for slot in held if not held[slot] <= own]
+        if not wrong:
+            return own
+        for slot in wrong:
+            del held[slot]
+
+
+def named(text):
+    """The names of a text that stand otherwise than where a function is made or called: whoever has such a function may call it."""
+    for line in text.split('\n'):
+        at = re.match(DEFINE, line) or re.match(CALL, line)
+        rest = at.group(3) if at and line.startswith('  ') else '' if at else line
+        yield from (quoted or plain for quoted, plain in re.findall(NAME, rest))
+
+
+def in_frames(found, text):
+    """Of each function, the parameters that are places of a caller's frame in every call."""
+    may = {name: given for name, given, _, _ in found}
+    for name in set(named(text)) & may.keys():
+        may[name] = {}
     while True:
         called, lent = set(), set()
-        for name, _, lines in found:
-            own = own_places(lines, may.get(name))
-            calls = [re.match(CALL, line).groups() for _, line in lines if re.match(CALL, line)]
-            called.update(callee for callee, _ in calls)
-            lent.update(callee for callee, place in calls if place not in own)
-        if may.keys() <= called - lent:
+        for name, _, lines, held in found:
+            own = own_places(lines, held, may[name].values())
+            for _, line in lines:
+                call = re.match(CALL, line)
+                if call:
+                    callee = call.group(1) or call.group(2)
+                    called.add(callee)
+                    lent.update((callee, place) for place, word in pointers(call.group(3)).items() if word not in own)
+        left = {name: {place: word for place, word in given.items() if name in called and (name, place) not in lent}
+                for name, given in may.items()}
+        if left == may:
             return may
-        may = {name: may[name] for name in may.keys() & (called - lent)}
+        may = left
 
 
 def writing(text):
     """Each function of a text, with its writes beyond its own frame: the line of each, or None of a copy."""
     found, told = functions(text), []
-    to_frames = results(found)
-    for name, _, lines in found:
-        own, written = own_places(lines, to_frames.get(name)), []
+    given = in_frames(found, text)
+    for name, _, lines, held in found:
+        own, written = own_places(lines, held, given[name].values()), []
         for number, line in lines:
             if re.match(UNKNOWN, line):
                 raise Wrong('line %d writes otherwise than by a plain store: %s' % (number + 1, line))
