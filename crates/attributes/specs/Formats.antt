@@ -3,6 +3,8 @@
 use Rattle.std.specs.Prelude.{ℕ, ◌+◌, ◌*◌, Bool, not, ◌&&◌, ◌||◌, eqb, leb, ltb}
 use Rattle.words.specs.Parts.{part}
 use Rattle.attributes.specs.declared.Attributes.{Attributes}
+use Rattle.attributes.specs.declared.formats.Half.{Half}
+use Rattle.attributes.specs.declared.formats.Half.TheVariants.{Inner, Outer}
 
 -- MemAttr below 4 is a Device type: nGnRnE, nGnRE, nGRE, GRE
 abbrev pub is_device : ℕ → Bool
@@ -25,6 +27,10 @@ outer_cached m = not (is_device m) && leb 2 (outer m)
 
 unfoldable pub inner_cached : ℕ → Bool
 inner_cached m = not (is_device m) && leb 2 (inner m)
+
+abbrev pub cached : Half → ℕ → Bool
+cached Inner m = inner_cached m
+cached Outer m = outer_cached m
 
 -- four bits, of which 4, 8 and 12 are ill formed
 unfoldable pub mem_attr_formed : ℕ → Bool
@@ -49,6 +55,10 @@ inner_hints h = part 2 0 h
 
 abbrev pub outer_hints : ℕ → ℕ
 outer_hints h = part 5 3 h
+
+abbrev pub hints_of : Half → ℕ → ℕ
+hints_of Inner h = inner_hints h
+hints_of Outer h = outer_hints h
 
 abbrev pub join_hints : ℕ → ℕ → ℕ
 join_hints i o = i + 8 * o

@@ -4,13 +4,11 @@
 mod formats;
 mod settling;
 
-pub use formats::{
-    hints_formed, inner_cached, inner_hints, join_hints, mem_attr_formed, outer_cached,
-    outer_hints, sh_formed, well_formed,
-};
+pub use formats::{Half, hints_formed, join_hints, mem_attr_formed, sh_formed, well_formed};
 pub use settling::settled;
 
-// The attributes of an access: MemAttr, SH and hints.
+// The attributes of an access: MemAttr, SH and hints. They stay numbers, since the flat table of 841 combined codes goes by
+// numbers, and so does the one computed test over all of it (the crate `combining`).
 #[derive(Clone, Copy)]
 pub struct Attributes {
     pub memattr: u64,
@@ -18,7 +16,8 @@ pub struct Attributes {
     pub hints: u64,
 }
 
-// What an STE row overrides them by: MTCFG, MemAttr, SHCFG and ALLOCCFG.
+// What an STE row overrides them by: MTCFG, MemAttr, SHCFG and ALLOCCFG. Each code is asked in one place, where a match names
+// its cases: an enum beside it would be no plainer.
 #[derive(Clone, Copy)]
 pub struct Overrides {
     pub mtcfg: u64,

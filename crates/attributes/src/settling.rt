@@ -1,11 +1,13 @@
 // Document 01, A transaction, step 5.
 ghost use Rattle.std.specs.Prelude.{◌≡◌, ◌<◌};
 ghost use Rattle.words.specs.Choice.{pick};
+ghost use Rattle.attributes.specs.Formats.{cached, hints_of};
 ghost use Rattle.attributes.specs.Settling.{settled_sh, settled_hints, settled};
 
 use crate::Attributes;
-use crate::formats::{inner_cached, inner_hints, join_hints, outer_cached, outer_hints};
+use crate::formats::{Half, join_hints};
 
+#[tactic(auto, unfolding(crate::specs::Settling::settled_sh))]
 fn settled_sh(m: u64, s: u64) -> u64
     ensures { result ≡ settled_sh m s }
 {
@@ -15,26 +17,25 @@ fn settled_sh(m: u64, s: u64) -> u64
     s
 }
 
-fn kept(cached: bool, h: u64) -> u64
-    requires { h < 8 }
-    ensures { (result ≡ pick cached h 0) × (result < 8) }
+// The hints of a half, of which one that is not cacheable has none.
+fn kept(half: Half, m: u64, h: u64) -> u64
+    ensures { (result ≡ pick (cached half m) (hints_of half h) 0) × (result < 8) }
 {
-    if cached {
-        return h;
+    if half.is_cached(m) {
+        return half.hints(h);
     }
     0
 }
 
+#[tactic(auto, unfolding(crate::specs::Settling::settled_hints))]
 fn settled_hints(m: u64, h: u64) -> u64
     ensures { result ≡ settled_hints m h }
 {
-    join_hints(
-        kept(inner_cached(m), inner_hints(h)),
-        kept(outer_cached(m), outer_hints(h)),
-    )
+    join_hints(kept(Half::Inner, m, h), kept(Half::Outer, m, h))
 }
 
 // The attributes as they leave: the only place where hints of a half that is not cacheable go.
+#[tactic(auto, unfolding(crate::specs::Settling::settled))]
 pub fn settled(a: Attributes) -> Attributes
     ensures { result ≡ settled a }
 {

@@ -51,58 +51,51 @@ const COMBINED: [u8; 841] = [
 fn rank(s: u64) -> u64
     ensures { (result ≡ rank s) × (result < 3) }
 {
-    if s == 2 {
-        return 2;
+    match s {
+        2 => 2,
+        3 => 1,
+        _ => 0,
     }
-    if s == 3 {
-        return 1;
-    }
-    0
 }
 
 // The number of a MemAttr and an SH.
+#[tactic(auto, using(crate::proofs::Formed::mem_attr_lt), unfolding(crate::specs::Combining::number))]
 pub fn number(m: u64, s: u64) -> u64
     requires { mem_attr_formed m ≡ true }
     ensures { result ≡ number m s }
 {
-    if m < 4 {
-        return m;
+    match m {
+        0..=3 => m,
+        5 => 4,
+        _ => 5 + 3 * u64::from(PLACES[m as usize]) + rank(s),
     }
-    if m == 5 {
-        return 4;
-    }
-    let at = m as usize;
-    5 + 3 * words::wide(PLACES[at]) + rank(s)
 }
 
 fn sh_of_rank(r: u64) -> u64
     ensures { result ≡ sh_of_rank r }
 {
-    if r == 2 {
-        return 2;
+    match r {
+        2 => 2,
+        1 => 3,
+        _ => 0,
     }
-    if r == 1 {
-        return 3;
-    }
-    0
 }
 
 // The MemAttr of a number.
+#[tactic(auto, unfolding(crate::specs::Combining::mem_attr_of))]
 pub fn mem_attr_of(c: u64) -> u64
     requires { c < 29 }
     ensures { result ≡ mem_attr_of c }
 {
-    if c < 4 {
-        return c;
+    match c {
+        0..=3 => c,
+        4 => 5,
+        _ => u64::from(NORMALS[((c - 5) / 3) as usize]),
     }
-    if c == 4 {
-        return 5;
-    }
-    let at = ((c - 5) / 3) as usize;
-    words::wide(NORMALS[at])
 }
 
 // The SH of a number.
+#[tactic(auto, unfolding(crate::specs::Combining::sh_of))]
 pub fn sh_of(c: u64) -> u64
     ensures { result ≡ sh_of c }
 {
@@ -118,7 +111,7 @@ pub fn combine(a: u64, b: u64) -> u64
     ensures { result ≡ combine a b }
 {
     let at = (a * 29 + b) as usize;
-    words::wide(COMBINED[at])
+    u64::from(COMBINED[at])
 }
 
 // Attributes with the MemAttr and the SH of a second stage.

@@ -1,5 +1,5 @@
 // Attributes, and what a stream overrides them by (document 01, The kept memory, and A transaction, step 2).
-use attributes::{Attributes, Overrides};
+use attributes::{Attributes, Half, Overrides};
 use rows::Parts;
 use std::io;
 use std::io::Write;
@@ -42,8 +42,8 @@ pub fn attributes(out: &mut impl Write, a: Attributes) -> io::Result<()> {
 }
 
 pub fn hints(out: &mut impl Write, a: Attributes) -> io::Result<()> {
-    let i = attributes::inner_hints(a.hints);
-    let o = attributes::outer_hints(a.hints);
+    let i = Half::Inner.hints(a.hints);
+    let o = Half::Outer.hints(a.hints);
     said(
         &mut *out,
         b", inner hints{| none}{| RA}{| WA}{| TR}, outer hints{| none}{| RA}{| WA}{| TR}",

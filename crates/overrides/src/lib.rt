@@ -3,12 +3,20 @@
 
 ghost use Rattle.std.specs.Prelude.{◌≡◌, ◌<◌, eqb};
 ghost use Rattle.words.specs.Choice.{pick};
-ghost use Rattle.words.specs.Parts.{part};
+ghost use Rattle.attributes.specs.Formats.{cached, hints_of};
 ghost use Rattle.overrides.specs.Overrides.{override_sh, allocated, half_hints, override_hints, overridden, forced, instruction, privileged};
 
-use attributes::{
-    Attributes, Overrides, inner_cached, inner_hints, join_hints, outer_cached, outer_hints,
-};
+use attributes::{Attributes, Half, Overrides, join_hints};
+use words::BitField;
+
+// The bits of ALLOCCFG: whether the other three are put into a half that is cacheable, and these, which are RA, WA and TR.
+const PUT: BitField = BitField { high: 3, low: 3 };
+
+const READ: BitField = BitField { high: 2, low: 2 };
+
+const WRITE: BitField = BitField { high: 1, low: 1 };
+
+const TRANSIENT: BitField = BitField { high: 0, low: 0 };
 
 fn override_mem_attr(mtcfg: u64, row: u64, m: u64) -> u64
     ensures { result ≡ pick (eqb mtcfg 1) row m }
@@ -19,68 +27,55 @@ fn override_mem_attr(mtcfg: u64, row: u64, m: u64) -> u64
     m
 }
 
+// NSH, the incoming, OSH or ISH.
+#[tactic(auto, unfolding(crate::specs::Overrides::override_sh))]
 fn override_sh(shcfg: u64, s: u64) -> u64
     ensures { result ≡ override_sh shcfg s }
 {
-    if shcfg == 0 {
-        return 0;
+    match shcfg {
+        0 => 0,
+        1 => s,
+        2 => 2,
+        _ => 3,
     }
-    if shcfg == 1 {
-        return s;
-    }
-    if shcfg == 2 {
-        return 2;
-    }
-    3
-}
-
-fn bit(w: u64, i: u64) -> u64
-    requires { i < 64 }
-    ensures { (result ≡ part i i w) × (result < 2) }
-{
-    words::part(w, i, i)
 }
 
 // ALLOCCFG runs from RA at its top to TR at its bottom, hints the other way.
+#[tactic(auto, unfolding(words::specs::Parts::part))]
 fn allocated(alloccfg: u64) -> u64
     ensures { (result ≡ allocated alloccfg) × (result < 8) }
 {
-    bit(alloccfg, 2) + 2 * bit(alloccfg, 1) + 4 * bit(alloccfg, 0)
+    READ.of(alloccfg) + 2 * WRITE.of(alloccfg) + 4 * TRANSIENT.of(alloccfg)
 }
 
-// ALLOCCFG has the last word, so it is asked first. The bound on a half's hints lets the two be joined.
-fn half_hints(alloccfg: u64, was: bool, is: bool, h: u64) -> u64
-    requires { h < 8 }
-    ensures { (result ≡ half_hints alloccfg was is h) × (result < 8) }
+// The hints of a half, from an old MemAttr to a new one. ALLOCCFG has the last word, so it is asked first. The bound lets two
+// halves be joined.
+#[tactic(auto, unfolding(crate::specs::Overrides::half_hints))]
+fn half_hints(half: Half, alloccfg: u64, old: u64, new: u64, h: u64) -> u64
+    ensures { (result ≡ half_hints alloccfg (cached half old) (cached half new) (hints_of half h)) × (result < 8) }
 {
-    if (bit(alloccfg, 3) == 1) & is {
+    let was = half.is_cached(old);
+    let is = half.is_cached(new);
+    if (PUT.of(alloccfg) == 1) & is {
         return allocated(alloccfg);
     }
     if is & !was {
         return 3;
     }
-    h
+    half.hints(h)
 }
 
+#[tactic(auto, unfolding(crate::specs::Overrides::override_hints))]
 fn override_hints(alloccfg: u64, old: u64, new: u64, h: u64) -> u64
     ensures { result ≡ override_hints alloccfg old new h }
 {
-    let i = half_hints(
-        alloccfg,
-        inner_cached(old),
-        inner_cached(new),
-        inner_hints(h),
-    );
-    let o = half_hints(
-        alloccfg,
-        outer_cached(old),
-        outer_cached(new),
-        outer_hints(h),
-    );
+    let i = half_hints(Half::Inner, alloccfg, old, new, h);
+    let o = half_hints(Half::Outer, alloccfg, old, new, h);
     join_hints(i, o)
 }
 
 // What an STE row makes of the incoming attributes.
+#[tactic(auto, unfolding(crate::specs::Overrides::overridden))]
 pub fn overridden(o: Overrides, a: Attributes) -> Attributes
     ensures { result ≡ overridden o a }
 {
@@ -93,10 +88,15 @@ pub fn overridden(o: Overrides, a: Attributes) -> Attributes
 }
 
 // INSTCFG and PRIVCFG have one code.
+#[tactic(auto, unfolding(crate::specs::Overrides::forced))]
 fn forced(cfg: u64, incoming: bool) -> bool
     ensures { result ≡ forced cfg incoming }
 {
-    !(cfg == 2) & ((cfg == 3) | incoming)
+    match cfg {
+        2 => false,
+        3 => true,
+        _ => incoming,
+    }
 }
 
 // Whether the access is an instruction fetch.

@@ -22,4 +22,4 @@ cell xs a b size t h k = held rule xs t (a * 29 + b) (omega arith) ∙ ap₂ com
 
 pub returns : goal.returns
 unfolding rule combine number mem_attr_of sh_of part
-returns c = c.wide.ensures.0 ∙ search (cell, tt)
+returns c = c.from.ensures ∙ search (cell, tt)
