@@ -131,7 +131,7 @@ pub fn lowest_in<F: Fn(usize) -> bool>(from: usize, to: usize, passes: F) -> Opt
 }
 
 // The same, where only the numbers are asked that `next` finds, each the lowest from a number on that may pass: q lets through
-// whatever passes.
+// whatever passes, and of what it lets through the test says whether it does.
 pub fn lowest_among<N: Fn(usize) -> Option<usize>, F: Fn(usize) -> bool>(
     from: usize,
     to: usize,
@@ -141,7 +141,7 @@ pub fn lowest_among<N: Fn(usize) -> Option<usize>, F: Fn(usize) -> bool>(
     requires next { (i : ℕ) → from ≤ i → i < to → N.pre next i }
     requires within { (i k : ℕ) → from ≤ i → i < to → N.post next i (Some k) → (i ≤ k) × (k < to) }
     requires passes { (i : ℕ) → from ≤ i → i < to → F.pre passes i }
-    ensures { (p q : ℕ → Bool) → ((i : ℕ) (b : Bool) → from ≤ i → i < to → F.post passes i b → b ≡ p i) → ((i : ℕ) (r : Option ℕ) → from ≤ i → i < to → N.post next i r → r ≡ lowest q (to - i) i) → ((i : ℕ) → i < to → p i ≡ true → q i ≡ true) → result ≡ lowest p (to - from) from }
+    ensures { (p q : ℕ → Bool) → ((i : ℕ) (b : Bool) → from ≤ i → i < to → q i ≡ true → F.post passes i b → b ≡ p i) → ((i : ℕ) (r : Option ℕ) → from ≤ i → i < to → N.post next i r → r ≡ lowest q (to - i) i) → ((i : ℕ) → i < to → p i ≡ true → q i ≡ true) → result ≡ lowest p (to - from) from }
 {
     let mut i = from;
     while i < to {
