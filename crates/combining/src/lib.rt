@@ -115,6 +115,7 @@ pub fn combine(a: u64, b: u64) -> u64
 }
 
 // Attributes with the MemAttr and the SH of a second stage.
+#[tactic(auto, using(crate::proofs::Numbers::number_lt, crate::proofs::Laws::combine_lt), unfolding(crate::specs::Combining::combined))]
 pub fn combined(a: Attributes, m: u64, s: u64) -> Attributes
     requires { (mem_attr_formed a.memattr ≡ true) × (mem_attr_formed m ≡ true) }
     ensures { result ≡ combined a m s }

@@ -88,6 +88,7 @@ fn known_config(c: u64) -> bool
     (c == 0) | (4 <= c)
 }
 
+#[tactic(auto, unfolding(crate::specs::WellFormed::ste_good))]
 fn ste_last_good(row: Row) -> bool
     requires { is_last row ≡ true }
     ensures { result ≡ ste_good row }
@@ -95,6 +96,7 @@ fn ste_last_good(row: Row) -> bool
     known_config(config_of(row)) & attributes::mem_attr_formed(new_mem_attr_of(row))
 }
 
+#[tactic(auto, unfolding(crate::specs::WellFormed::ste_good))]
 fn ste_block_good(row: Row) -> bool
     requires { is_last row ≡ false }
     ensures { result ≡ ste_good row }
@@ -103,6 +105,7 @@ fn ste_block_good(row: Row) -> bool
     ((span == 6) | (span == 8) | (span == 10)) & (stream_of(row) % words::power(span) == 0)
 }
 
+#[tactic(auto, unfolding(crate::specs::WellFormed::placed))]
 fn placed(n: u64, a: u64) -> bool
     requires { n < 64 }
     ensures { result ≡ placed n a }
@@ -111,6 +114,7 @@ fn placed(n: u64, a: u64) -> bool
 }
 
 // Either half of the addresses: the bits above all 0, or all 1.
+#[tactic(auto, unfolding(crate::specs::WellFormed::in_half))]
 fn in_half(a: u64) -> bool
     ensures { result ≡ in_half a }
 {
@@ -182,6 +186,7 @@ fn shaped(row: Row) -> bool
     }
 }
 
+#[tactic(auto, unfolding(crate::specs::WellFormed::well_formed_by, words::specs::Parts::part))]
 pub fn well_formed(row: Row) -> bool
     ensures { result ≡ well_formed row }
 {

@@ -6,12 +6,14 @@ use crate::{Kind, Mark, Parts, Row, places};
 use attributes::{Attributes, Overrides};
 
 // Six bits, so that a power of two of them is within the machine's reach.
+#[tactic(auto, unfolding(words::specs::Parts::part))]
 pub fn span_of(row: Row) -> u64
     ensures { (result ≡ span row) × (result < 64) }
 {
     places::SPAN.of(row.w0)
 }
 
+#[tactic(auto, unfolding(words::specs::Parts::part))]
 pub fn kind_of(row: Row) -> Kind
     ensures { kind_number result ≡ kind row }
 {
@@ -30,6 +32,7 @@ pub fn is_last(row: Row) -> bool
 }
 
 // Which of the hypervisor's own rows it is, or none.
+#[tactic(auto, unfolding(words::specs::Parts::part))]
 pub fn mark_of(row: Row) -> Mark
     ensures { mark_number result ≡ mark row }
 {
@@ -110,6 +113,7 @@ pub fn attributes_of(row: Row) -> Attributes
     }
 }
 
+#[tactic(auto, using(crate::proofs::Covering::inside, crate::proofs::Covering::outside))]
 pub fn covers(row: Row, address: u64) -> bool
     ensures { result ≡ covers row address }
 {
