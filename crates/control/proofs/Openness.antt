@@ -2,13 +2,13 @@
 -- Assumes nothing.
 use mathlib.Core.Path.{◌≡◌, refl}
 use mathlib.Core.Bool.{Bool, true, false}
+use Rattle.std.specs.Prelude.{None, Some}
 use Prim.Native.Nat.{ℕ}
 use native.Mathlib.Omega.{arith}
 use lib.Dec.{eqb}
 use borrow.Author.Tests.{eqb-false}
 use Rattle.words.specs.Choice.{pick}
 use Rattle.control.specs.declared.Rest.TheVariants.{Off, Held, Empty}
-use Rattle.control.specs.declared.Standing.TheVariants.{Resting, Open}
 use Rattle.control.specs.Control.{rd, wr, cmdqen, active, standing}
 
 pub record Opened (off held empty : Bool) : Type 0 where
@@ -16,13 +16,13 @@ pub record Opened (off held empty : Bool) : Type 0 where
   pub quiet : held ≡ false
   pub some : empty ≡ false
 
-cases : (off held empty : Bool) → pick off (Resting Off) (pick held (Resting Held) (pick empty (Resting Empty) Open)) ≡ Open → Opened off held empty
+cases : (off held empty : Bool) → pick off (Some Off) (pick held (Some Held) (pick empty (Some Empty) None)) ≡ None → Opened off held empty
 cases false false false e = record { enabled = refl; quiet = refl; some = refl }
 cases false false true e = let z : ◌≡◌ {A = ℕ} 0 1 = cc in absurd (omega arith)
 cases false true empty e = let z : ◌≡◌ {A = ℕ} 0 1 = cc in absurd (omega arith)
 cases true held empty e = let z : ◌≡◌ {A = ℕ} 0 1 = cc in absurd (omega arith)
 
-module _ (w : ℕ) (open' : standing w ≡ Open) where
+module _ (w : ℕ) (open' : standing w ≡ None) where
   opened : Opened (eqb (cmdqen w) 0) (active w) (eqb (rd w) (wr w))
   unfolding standing
   opened = cases (eqb (cmdqen w) 0) (active w) (eqb (rd w) (wr w)) open'

@@ -1,12 +1,11 @@
 -- Document 01, The kept memory: the control word. One run: what it lets a run do.
 -- Assumes nothing.
-use Rattle.std.specs.Prelude.{ℕ, Bool, not, ◌&&◌, ◌||◌, eqb, leb}
+use Rattle.std.specs.Prelude.{ℕ, Bool, not, ◌&&◌, ◌||◌, eqb, leb, Option, Some, None}
 use Rattle.words.specs.Choice.{pick}
 use Rattle.words.specs.Ranges.{Range, bits, get}
 use Rattle.indexes.specs.Indexes as indexes
 use Rattle.control.specs.declared.Rest.TheVariants.{Off, Held, Empty}
-use Rattle.control.specs.declared.Standing.{Standing}
-use Rattle.control.specs.declared.Standing.TheVariants.{Resting, Open}
+use Rattle.control.specs.declared.Rest.{Rest}
 use Rattle.control.specs.declared.Fields.{Fields}
 
 -- its parts
@@ -96,13 +95,13 @@ well_formed w =
     && leb (err w) 1
     && (not (active w) || eqb (err w) 1)
 
--- CMDQEN, then the error, then the indexes: resting, or open for the command at RD
-unfoldable pub standing : ℕ → Standing
+-- CMDQEN, then the error, then the indexes: why a run rests, or none where it takes the command at RD
+unfoldable pub standing : ℕ → Option Rest
 standing w =
-    pick (eqb (cmdqen w) 0) (Resting Off)
-    (pick (active w) (Resting Held)
-    (pick (eqb (rd w) (wr w)) (Resting Empty)
-    Open))
+    pick (eqb (cmdqen w) 0) (Some Off)
+    (pick (active w) (Some Held)
+    (pick (eqb (rd w) (wr w)) (Some Empty)
+    None))
 
 -- how many commands wait, and the slot of the first
 unfoldable pub distance : ℕ → ℕ

@@ -5,8 +5,8 @@ pub mod places;
 mod word;
 
 pub use word::{
-    MAX_LOG2, active, fields_of, gerror_of, log2size_of, pending_of, rd_of, slot_of, standing_of,
-    well_formed, wr_of,
+    MAX_LOG2, active, fields_of, gerror_of, log2size_of, pending_of, queue_of, rd_of, slot_of,
+    standing_of, well_formed, wr_of,
 };
 
 // Why a run does nothing more.
@@ -15,13 +15,6 @@ pub enum Rest {
     Off,
     Held,
     Empty,
-}
-
-// What the control word says to a run: rest, or take the command at RD.
-#[derive(Clone, Copy)]
-pub enum Standing {
-    Resting(Rest),
-    Open,
 }
 
 // The parts of the control word.

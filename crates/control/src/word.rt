@@ -2,7 +2,8 @@
 ghost use Rattle.std.specs.Prelude.{◌≡◌, ◌≤◌, ◌<◌};
 ghost use Rattle.control.specs.Control.{rd, wr, err, gerror, gerrorn, cmdqen, log2size, pending, fields_of, active, well_formed, standing, slot};
 
-use crate::{Fields, Rest, Standing, places};
+use crate::{Fields, Rest, places};
+use indexes::Queue;
 
 // The largest LOG2SIZE.
 pub const MAX_LOG2: u64 = 12;
@@ -57,6 +58,19 @@ pub fn pending_of(w: u64) -> u64
     places::PENDING.of(w)
 }
 
+// The queue that the word tells of.
+pub fn queue_of(w: u64) -> Queue
+    ensures log2 { result.log2 ≡ log2size w }
+    ensures rd { result.rd ≡ rd w }
+    ensures wr { result.wr ≡ wr w }
+{
+    Queue {
+        log2: log2size_of(w),
+        rd: rd_of(w),
+        wr: wr_of(w),
+    }
+}
+
 #[tactic(auto, unfolding(crate::specs::Control::fields_of))]
 pub fn fields_of(w: u64) -> Fields
     ensures { result ≡ fields_of w }
@@ -86,29 +100,31 @@ pub fn well_formed(w: u64) -> bool
 {
     (places::ZERO.of(w) == 0)
         & (log2size_of(w) <= MAX_LOG2)
-        & indexes::well_formed(log2size_of(w), rd_of(w), wr_of(w))
+        & queue_of(w).is_well_formed()
         & (err_of(w) <= 1)
         & (!active(w) | (err_of(w) == 1))
 }
 
-pub fn standing_of(w: u64) -> Standing
+// Why a run does nothing more, or None where it takes the command at RD.
+#[tactic(auto, unfolding(crate::specs::Control::standing))]
+pub fn standing_of(w: u64) -> Option<Rest>
     ensures { result ≡ standing w }
 {
     if cmdqen_of(w) == 0 {
-        return Standing::Resting(Rest::Off);
+        return Some(Rest::Off);
     }
     if active(w) {
-        return Standing::Resting(Rest::Held);
+        return Some(Rest::Held);
     }
     if rd_of(w) == wr_of(w) {
-        return Standing::Resting(Rest::Empty);
+        return Some(Rest::Empty);
     }
-    Standing::Open
+    None
 }
 
 #[tactic(auto, unfolding(crate::specs::Control::slot))]
 pub fn slot_of(w: u64) -> u64
     ensures { result ≡ slot w }
 {
-    indexes::slot(log2size_of(w), rd_of(w))
+    queue_of(w).oldest()
 }

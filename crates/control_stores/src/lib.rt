@@ -4,13 +4,14 @@
 ghost use Rattle.std.specs.Prelude.{◌≡◌};
 ghost use Rattle.control_stores.specs.Stores.{consumed, raised, may_ring, rung, acknowledged, pended, switched};
 
-use control::{gerror_of, log2size_of, places, rd_of, wr_of};
+use control::{gerror_of, places, queue_of};
+use indexes::Queue;
 
 #[tactic(auto, unfolding(crate::specs::Stores::consumed))]
 pub fn consumed(w: u64) -> u64
     ensures { result ≡ consumed w }
 {
-    places::RD.put(w, indexes::next(log2size_of(w), rd_of(w)))
+    places::RD.put(w, queue_of(w).rd_after())
 }
 
 #[tactic(auto, unfolding(crate::specs::Stores::raised))]
@@ -25,10 +26,13 @@ pub fn raised(w: u64) -> u64
 pub fn may_ring(w: u64, v: u64) -> bool
     ensures { result ≡ may_ring w v }
 {
-    let n = log2size_of(w);
-    let rd = rd_of(w);
-    indexes::well_formed(n, rd, v)
-        & (indexes::distance(n, rd, wr_of(w)) <= indexes::distance(n, rd, v))
+    let now = queue_of(w);
+    let rung = Queue {
+        log2: now.log2,
+        rd: now.rd,
+        wr: v,
+    };
+    rung.is_well_formed() & (now.waiting() <= rung.waiting())
 }
 
 #[tactic(auto, unfolding(crate::specs::Stores::rung))]

@@ -6,8 +6,6 @@ use Rattle.words.specs.Ranges.{Range}
 use Rattle.words.specs.Search.{lowest}
 use Rattle.control.specs.Control as control
 use Rattle.control.specs.declared.Rest.{Rest}
-use Rattle.control.specs.declared.Standing.{Standing}
-use Rattle.control.specs.declared.Standing.TheVariants.{Resting, Open}
 use Rattle.control_stores.specs.Stores as control-stores
 use Rattle.commands.specs.declared.Features.{Features}
 use Rattle.commands.specs.declared.Command.{Command}
@@ -72,9 +70,9 @@ due_for f (Illegal why) m = Stores Control (control-stores.raised (control_of m)
 abbrev pub at_rd : Features → List ℕ → Memory → Decoded
 at_rd f queue m = decode_at f queue (control.slot (control_of m))
 
-abbrev pub gate : Standing → Due → Due
-gate (Resting rest) d = Rests rest
-gate Open d = d
+abbrev pub gate : Option Rest → Due → Due
+gate (Some rest) d = Rests rest
+gate None d = d
 
 unfoldable pub due : Features → List ℕ → Memory → Due
 due f queue m = gate (control.standing (control_of m)) (due_for f (at_rd f queue m) m)

@@ -3,20 +3,20 @@ ghost use Rattle.std.specs.Prelude.{◌≡◌};
 ghost use Rattle.events.specs.Stores.{written, read_out, flipped, acknowledged};
 
 use crate::places;
-use crate::word::{log2size_of, overflow_of, rd_of, wr_of};
+use crate::word::{overflow_of, queue_of};
 
 #[tactic(auto, unfolding(crate::specs::Stores::written))]
 pub fn written(w: u64) -> u64
     ensures { result ≡ written w }
 {
-    places::WR.put(w, indexes::next(log2size_of(w), wr_of(w)))
+    places::WR.put(w, queue_of(w).wr_after())
 }
 
 #[tactic(auto, unfolding(crate::specs::Stores::read_out))]
 pub fn read_out(w: u64) -> u64
     ensures { result ≡ read_out w }
 {
-    places::RD.put(w, indexes::next(log2size_of(w), rd_of(w)))
+    places::RD.put(w, queue_of(w).rd_after())
 }
 
 #[tactic(auto, unfolding(crate::specs::Stores::flipped))]

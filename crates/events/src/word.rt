@@ -3,6 +3,7 @@ ghost use Rattle.std.specs.Prelude.{◌≡◌, ◌≤◌, ◌<◌};
 ghost use Rattle.events.specs.Word.{rd, wr, overflow, overflow_ack, log2size, outstanding, well_formed, is_empty, is_full, oldest, free};
 
 use crate::places;
+use indexes::Queue;
 
 pub fn rd_of(w: u64) -> u64
     ensures { result ≡ rd w }
@@ -35,6 +36,19 @@ pub fn log2size_of(w: u64) -> u64
     places::LOG2SIZE.of(w)
 }
 
+// The queue that the word tells of.
+pub fn queue_of(w: u64) -> Queue
+    ensures log2 { result.log2 ≡ log2size w }
+    ensures rd { result.rd ≡ rd w }
+    ensures wr { result.wr ≡ wr w }
+{
+    Queue {
+        log2: log2size_of(w),
+        rd: rd_of(w),
+        wr: wr_of(w),
+    }
+}
+
 // Whether an overflow waits to be acknowledged.
 #[tactic(auto, unfolding(crate::specs::Word::outstanding))]
 pub fn outstanding(w: u64) -> bool
@@ -63,8 +77,7 @@ pub fn is_empty(w: u64) -> bool
 pub fn is_full(w: u64) -> bool
     ensures { result ≡ is_full w }
 {
-    let n = log2size_of(w);
-    indexes::distance(n, rd_of(w), wr_of(w)) == words::power(n)
+    queue_of(w).is_full()
 }
 
 // The slot of the oldest record.
@@ -72,7 +85,7 @@ pub fn is_full(w: u64) -> bool
 pub fn oldest(w: u64) -> u64
     ensures { result ≡ oldest w }
 {
-    indexes::slot(log2size_of(w), rd_of(w))
+    queue_of(w).oldest()
 }
 
 // The slot that the next record goes to.
@@ -80,5 +93,5 @@ pub fn oldest(w: u64) -> u64
 pub fn free(w: u64) -> u64
     ensures { result ≡ free w }
 {
-    indexes::slot(log2size_of(w), wr_of(w))
+    queue_of(w).free()
 }

@@ -8,8 +8,6 @@ use Rattle.std.specs.Prelude.{None, Option, Some}
 use Rattle.words.proofs.Search.{Lowest}
 use Rattle.control.specs.Control as control
 use Rattle.control.specs.declared.Rest.{Rest}
-use Rattle.control.specs.declared.Standing.{Standing}
-use Rattle.control.specs.declared.Standing.TheVariants.{Resting, Open}
 use Rattle.control_stores.specs.Stores as control-stores
 use Rattle.commands.specs.declared.Features.{Features}
 use Rattle.commands.specs.declared.Command.{Command}
@@ -29,7 +27,7 @@ pub data Case (f : Features) (queue : List ℕ) (m : Memory) (w : What) (m' : Me
   raises : (why : Reason) → at_rd f queue m ≡ Illegal why → w ≡ Raise (raising_at why (control_of m)) → m' ≡ storedIn m (control-stores.raised (control_of m)) → Case f queue m w m'
 
 pub record IsDue (f : Features) (queue : List ℕ) (m : Memory) (w : What) (m' : Memory) : Type 0 where
-  pub open_for_it : control.standing (control_of m) ≡ Open
+  pub open_for_it : control.standing (control_of m) ≡ None
   pub kind : Case f queue m w m'
 
 module _ (f : Features) (queue : List ℕ) (m : Memory) (w : What) (m' : Memory) where
@@ -42,9 +40,9 @@ module _ (f : Features) (queue : List ℕ) (m : Memory) (w : What) (m' : Memory)
   by_command (Legal c) e s = scan_case c e (scan f c m (rows_in m) 0) refl s
   by_command (Illegal why) e s = raises why e (cc) (cc)
 
-  by_standing : (st : Standing) → control.standing (control_of m) ≡ st → next_of (gate st (due_for f (at_rd f queue m) m)) m ≡ stores w m' → IsDue f queue m w m'
-  by_standing (Resting r) e s = let z : ◌≡◌ {A = ℕ} 0 1 = cc in absurd (omega arith)
-  by_standing Open e s = record { open_for_it = e; kind = by_command (at_rd f queue m) refl s }
+  by_standing : (st : Option Rest) → control.standing (control_of m) ≡ st → next_of (gate st (due_for f (at_rd f queue m) m)) m ≡ stores w m' → IsDue f queue m w m'
+  by_standing (Some r) e s = let z : ◌≡◌ {A = ℕ} 0 1 = cc in absurd (omega arith)
+  by_standing None e s = record { open_for_it = e; kind = by_command (at_rd f queue m) refl s }
 
   pub is_due : due_in f queue m ≡ stores w m' → IsDue f queue m w m'
   unfolding due
@@ -62,13 +60,13 @@ module _ (f : Features) (queue : List ℕ) (m : Memory) (r : Rest) where
   never-rests (Illegal why) e = let z : ◌≡◌ {A = ℕ} 0 1 = cc in omega arith
 
   -- so at rest means that the control word is
-  pub rests-at : due_in f queue m ≡ rests r → control.standing (control_of m) ≡ Resting r
+  pub rests-at : due_in f queue m ≡ rests r → control.standing (control_of m) ≡ Some r
   unfolding due
   rests-at e = by_standing' (control.standing (control_of m)) refl e
     where
-      by_standing' : (st : Standing) → control.standing (control_of m) ≡ st → next_of (gate st (due_for f (at_rd f queue m) m)) m ≡ rests r → control.standing (control_of m) ≡ Resting r
-      by_standing' (Resting r') same s = same ∙ (cc)
-      by_standing' Open same s = absurd (never-rests (at_rd f queue m) s)
+      by_standing' : (st : Option Rest) → control.standing (control_of m) ≡ st → next_of (gate st (due_for f (at_rd f queue m) m)) m ≡ rests r → control.standing (control_of m) ≡ Some r
+      by_standing' (Some r') same s = same ∙ (cc)
+      by_standing' None same s = absurd (never-rests (at_rd f queue m) s)
 
-  pub open_stores : control.standing (control_of m) ≡ Open → due_in f queue m ≡ rests r → ⊥
+  pub open_stores : control.standing (control_of m) ≡ None → due_in f queue m ≡ rests r → ⊥
   open_stores on e = let z : ◌≡◌ {A = ℕ} 0 1 = cc (rests-at e) in omega arith

@@ -8,11 +8,11 @@ use Prim.Native.Nat.{ℕ, zero, suc}
 use native.Mathlib.Omega.{arith}
 use lib.Dec.{eqb}
 use borrow.Author.Tests.{eqb-true, eqb-false}
+use Rattle.std.specs.Prelude.{None, Some}
 use Rattle.words.specs.Choice.{pick}
 use Rattle.control.specs.Control as control
 use Rattle.control.specs.declared.Rest.{Rest}
 use Rattle.control.specs.declared.Rest.TheVariants.{Off as Rest-as-Off, Held as Rest-as-Held, Empty as Rest-as-Empty}
-use Rattle.control.specs.declared.Standing.TheVariants.{Resting, Open}
 use Rattle.control_stores.specs.Stores as control-stores
 use Rattle.commands.specs.declared.Features.{Features}
 use Rattle.commands.specs.declared.Decoded.TheVariants.{Illegal}
@@ -79,13 +79,13 @@ data Reading (off held empty : Bool) : Rest → Type 0 where
   is_held : off ≡ false → held ≡ true → Reading off held empty Rest-as-Held
   ends_empty : off ≡ false → held ≡ false → empty ≡ true → Reading off held empty Rest-as-Empty
 
-reading : (off held empty : Bool) (r : Rest) → pick off (Resting Rest-as-Off) (pick held (Resting Rest-as-Held) (pick empty (Resting Rest-as-Empty) Open)) ≡ Resting r → Reading off held empty r
+reading : (off held empty : Bool) (r : Rest) → pick off (Some Rest-as-Off) (pick held (Some Rest-as-Held) (pick empty (Some Rest-as-Empty) None)) ≡ Some r → Reading off held empty r
 reading true held empty r e = let s : Rest-as-Off ≡ r = cc in rw (← s) (is_off refl)
 reading false true empty r e = let s : Rest-as-Held ≡ r = cc in rw (← s) (is_held refl refl)
 reading false false true r e = let s : Rest-as-Empty ≡ r = cc in rw (← s) (ends_empty refl refl refl)
 reading false false false r e = let z : ◌≡◌ {A = ℕ} 0 1 = cc in absurd (omega arith)
 
-read_word : (w : ℕ) (r : Rest) → control.standing w ≡ Resting r → Reading (eqb (control.cmdqen w) 0) (control.active w) (eqb (control.rd w) (control.wr w)) r
+read_word : (w : ℕ) (r : Rest) → control.standing w ≡ Some r → Reading (eqb (control.cmdqen w) 0) (control.active w) (eqb (control.rd w) (control.wr w)) r
 unfolding control.standing
 read_word w r e = reading (eqb (control.cmdqen w) 0) (control.active w) (eqb (control.rd w) (control.wr w)) r e
 
@@ -121,7 +121,7 @@ module _ (f : Features) (queue : List ℕ) (n : ℕ) where
 
   -- CERROR_ILL the other way round: a run that comes to an illegal command raises the error there, if it may still store
   pub comes-to-illegal : (why : Reason) (k : ℕ) (m : Memory) → Accepts m n
-      → control.standing (advanced f queue (run f queue k m).ran.consumed (control_of m)) ≡ Open
+      → control.standing (advanced f queue (run f queue k m).ran.consumed (control_of m)) ≡ None
       → command_at f queue (control_of m) (run f queue k m).ran.consumed ≡ Illegal why
       → ((run f queue k m).ran.end ≡ Raised (raising_at why (advanced f queue (run f queue k m).ran.consumed (control_of m)))) ⊎ (((run f queue k m).ran.end ≡ Cut) × ((run f queue k m).ran.stores ≡ k))
   comes-to-illegal why k m a on illegal = by_end (run f queue k m).ran.end refl

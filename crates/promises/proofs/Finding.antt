@@ -14,7 +14,6 @@ use Rattle.words.proofs.Search.{Lowest, from_zero, none}
 use Rattle.words.proofs.Truth.{clash}
 use Rattle.control.specs.Control as control
 use Rattle.control.specs.declared.Rest.{Rest}
-use Rattle.control.specs.declared.Standing.TheVariants.{Open}
 use Rattle.control.specs.declared.Rest.TheVariants.{Off as Rest-as-Off, Held as Rest-as-Held, Empty as Rest-as-Empty}
 use Rattle.control_stores.specs.Stores as control-stores
 use Rattle.commands.specs.declared.Features.{Features}
@@ -41,7 +40,7 @@ module _ (f : Features) (queue : List ℕ) where
   Reaches o = (0 < o.ran.consumed) ⊎ ((0 ≡ o.ran.consumed) × (o.ran.end ≡ Cut))
 
   reaches-by : (k : ℕ) (m m' : Memory) (w : What) (c : Command) → at_rd f queue m ≡ Legal c
-      → ((m'' : Memory) → control.standing (control_of m'') ≡ Open → at_rd f queue m'' ≡ Legal c → Reaches (run f queue k m''))
+      → ((m'' : Memory) → control.standing (control_of m'') ≡ None → at_rd f queue m'' ≡ Legal c → Reaches (run f queue k m''))
       → IsDue f queue m w m' → Case f queue m w m' → Reaches (next (run f queue k) (stores w m') m)
   reaches-by k m m' w c legal ih d (removes c' i legal' low what stored) =
       let word = memory.control-cleared m i in
@@ -49,17 +48,17 @@ module _ (f : Features) (queue : List ℕ) where
   reaches-by k m m' w c legal ih d (consumes c' legal' nothing what stored) = rw what (inl (omega arith))
   reaches-by k m m' w c legal ih d (raises why illegal what stored) = let z : ◌≡◌ {A = ℕ} 0 1 = cc in absurd (omega arith)
 
-  reaches-next : (k : ℕ) (m : Memory) (c : Command) (d : Next Memory) → due_in f queue m ≡ d → control.standing (control_of m) ≡ Open → at_rd f queue m ≡ Legal c
-      → ((m'' : Memory) → control.standing (control_of m'') ≡ Open → at_rd f queue m'' ≡ Legal c → Reaches (run f queue k m''))
+  reaches-next : (k : ℕ) (m : Memory) (c : Command) (d : Next Memory) → due_in f queue m ≡ d → control.standing (control_of m) ≡ None → at_rd f queue m ≡ Legal c
+      → ((m'' : Memory) → control.standing (control_of m'') ≡ None → at_rd f queue m'' ≡ Legal c → Reaches (run f queue k m''))
       → Reaches (next (run f queue k) d m)
   reaches-next k m c (rests r) e on legal ih = absurd (open_stores f queue m r on e)
   reaches-next k m c (stores w m') e on legal ih = let d = is_due f queue m w m' e in reaches-by k m m' w c legal ih d d.kind
 
-  reaches-last : (m : Memory) (d : Next Memory) → due_in f queue m ≡ d → control.standing (control_of m) ≡ Open → Reaches (last d m)
+  reaches-last : (m : Memory) (d : Next Memory) → due_in f queue m ≡ d → control.standing (control_of m) ≡ None → Reaches (last d m)
   reaches-last m (rests r) e on = absurd (open_stores f queue m r on e)
   reaches-last m (stores w m') e on = inr (refl, refl)
 
-  reaches : (k : ℕ) (m : Memory) (c : Command) → control.standing (control_of m) ≡ Open → at_rd f queue m ≡ Legal c → Reaches (run f queue k m)
+  reaches : (k : ℕ) (m : Memory) (c : Command) → control.standing (control_of m) ≡ None → at_rd f queue m ≡ Legal c → Reaches (run f queue k m)
   unfolding run_by
   reaches zero m c on legal = reaches-last m (due_in f queue m) refl on
   reaches (suc k) m c on legal = reaches-next k m c (due_in f queue m) refl on legal (λ m'' o l. reaches k m'' c o l)
@@ -191,7 +190,7 @@ module _ (f : Features) (queue : List ℕ) (n : ℕ) where
   by_case k m m' w a e ih d (removes c i legal low what stored) =
       let accepted : Accepts (cleared m i) n = rw stored at (store-accepted f queue n m m' w a e) in
       let word = memory.control-cleared m i in
-      let on : control.standing (control_of (cleared m i)) ≡ Open = ap control.standing word ∙ d.open_for_it in
+      let on : control.standing (control_of (cleared m i)) ≡ None = ap control.standing word ∙ d.open_for_it in
       let same : at_rd f queue (cleared m i) ≡ Legal c = ap (λ (x : ℕ). decode_at f queue (control.slot x)) word ∙ legal in
       rw (what, stored, zero-add) (after_remove m _ _ _ c i a legal low (reaches f queue k (cleared m i) c on same) (ih (cleared m i) accepted))
   by_case k m m' w a e ih d (consumes c legal nothing what stored) =

@@ -5,12 +5,12 @@ use mathlib.Core.Bool.{Bool, true, false}
 use mathlib.Core.List.{List}
 use Prim.Native.Nat.{ℕ, suc}
 use lib.Dec.{T}
+use Rattle.std.specs.Prelude.{None, Some}
 use Rattle.words.specs.Ranges.{Range, get}
 use Rattle.words.proofs.Parts.{apart, all_apart}
 use borrow.Author.Tests.{eq-eqb, ne_eqb}
 use Rattle.control.specs.Control as control
 use Rattle.control.specs.declared.Rest.TheVariants.{Off as Rest-as-Off, Held as Rest-as-Held}
-use Rattle.control.specs.declared.Standing.TheVariants.{Resting, Open}
 use Rattle.control.proofs.Openness.{open-enabled, open-waits}
 use Rattle.control_stores.specs.Stores as control-stores
 use Rattle.control_stores.proofs.AfterStores.{raises, raised_keeps, acknowledged-keeps, acknowledged-quiet, rung-keeps, switched-keeps, same-active}
@@ -25,15 +25,15 @@ use Rattle.runs.specs.Running.{stores, rested, plus, run_by, due_in, run}
 use Rattle.runs.proofs.Turns.{run-rests, due-rests}
 
 -- the standing of a word, by its parts
-off : (w : ℕ) → control.cmdqen w ≡ 0 → control.standing w ≡ Resting Rest-as-Off
+off : (w : ℕ) → control.cmdqen w ≡ 0 → control.standing w ≡ Some Rest-as-Off
 unfolding control.standing
 off w e = rw (eq-eqb (control.cmdqen w) 0 e)
 
-held : (w : ℕ) → (control.cmdqen w ≡ 0 → ⊥) → control.active w ≡ true → control.standing w ≡ Resting Rest-as-Held
+held : (w : ℕ) → (control.cmdqen w ≡ 0 → ⊥) → control.active w ≡ true → control.standing w ≡ Some Rest-as-Held
 unfolding control.standing
 held w on e = rw (ne_eqb (control.cmdqen w) 0 on, e)
 
-opens : (w : ℕ) → (control.cmdqen w ≡ 0 → ⊥) → control.active w ≡ false → (control.rd w ≡ control.wr w → ⊥) → control.standing w ≡ Open
+opens : (w : ℕ) → (control.cmdqen w ≡ 0 → ⊥) → control.active w ≡ false → (control.rd w ≡ control.wr w → ⊥) → control.standing w ≡ None
 unfolding control.standing
 opens w on quiet waits = rw (ne_eqb (control.cmdqen w) 0 on, quiet, ne_eqb (control.rd w) (control.wr w) waits)
 
@@ -41,18 +41,18 @@ module _ (f : Features) (queue : List ℕ) (m : Memory) where
   abbrev raisedMemory : Memory
   raisedMemory = storedIn m (control-stores.raised (control_of m))
 
-  is-raise : {why : Reason} → control.standing (control_of m) ≡ Open → at_rd f queue m ≡ Illegal why
+  is-raise : {why : Reason} → control.standing (control_of m) ≡ None → at_rd f queue m ≡ Illegal why
       → due_in f queue m ≡ stores (Raise (raising_at why (control_of m))) raisedMemory
   unfolding due due_for
   is-raise on illegal = rw (on, illegal)
 
   -- an illegal command at RD: one store, ERR and GERROR, and the run ends with its reason and slot; with no allowance it is cut
-  pub illegal-raises : {why : Reason} (k : ℕ) → control.standing (control_of m) ≡ Open → at_rd f queue m ≡ Illegal why
+  pub illegal-raises : {why : Reason} (k : ℕ) → control.standing (control_of m) ≡ None → at_rd f queue m ≡ Illegal why
       → run f queue (suc k) m ≡ plus 0 1 0 0 (rested (Raised (raising_at why (control_of m))) raisedMemory)
   unfolding run_by
   illegal-raises k on illegal = rw (is-raise on illegal)
 
-  pub illegal-cut : {why : Reason} → control.standing (control_of m) ≡ Open → at_rd f queue m ≡ Illegal why → run f queue 0 m ≡ rested Cut m
+  pub illegal-cut : {why : Reason} → control.standing (control_of m) ≡ None → at_rd f queue m ≡ Illegal why → run f queue 0 m ≡ rested Cut m
   unfolding run_by
   illegal-cut on illegal = rw (is-raise on illegal)
 
@@ -82,7 +82,7 @@ module _ (w : ℕ) where
       let r = control-stores.raised w in
       rw (acknowledged-keeps r control.log2size_bits tt, acknowledged-keeps r control.rd_bits tt) raised-slot
 
-  reopens : control.standing w ≡ Open → control.standing (control-stores.acknowledged (control-stores.raised w)) ≡ Open
+  reopens : control.standing w ≡ None → control.standing (control-stores.acknowledged (control-stores.raised w)) ≡ None
   reopens on =
       let r = control-stores.raised w in
       let kept : (b : Range) → T (apart control.gerrorn_bits b) → T (all_apart raises b) → get b (control-stores.acknowledged r) ≡ get b w =
@@ -93,7 +93,7 @@ module _ (w : ℕ) where
       (λ e. open-waits w on (sym (kept control.rd_bits tt tt) ∙ e ∙ kept control.wr_bits tt tt))
 
 -- after acknowledging, the same illegal command raises again, and tells the same
-pub raises-again : {why : Reason} (f : Features) (queue : List ℕ) (m : Memory) (k : ℕ) → control.standing (control_of m) ≡ Open → at_rd f queue m ≡ Illegal why
+pub raises-again : {why : Reason} (f : Features) (queue : List ℕ) (m : Memory) (k : ℕ) → control.standing (control_of m) ≡ None → at_rd f queue m ≡ Illegal why
     → (m₂ : Memory) → control_of m₂ ≡ control-stores.acknowledged (control-stores.raised (control_of m))
     → run f queue (suc k) m₂ ≡ plus 0 1 0 0 (rested (Raised (raising_at why (control_of m))) (storedIn m₂ (control-stores.raised (control_of m₂))))
 raises-again {why} f queue m k on illegal m₂ word =

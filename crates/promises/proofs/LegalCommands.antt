@@ -12,7 +12,6 @@ use Rattle.words.specs.Search.{count}
 use Rattle.words.proofs.Truth.{clash}
 use Rattle.words.proofs.Search.{Lowest, from_zero, none, is_none, count_less, count_none_passes, none_pass_count}
 use Rattle.control.specs.Control as control
-use Rattle.control.specs.declared.Standing.TheVariants.{Open}
 use Rattle.commands.specs.declared.Features.{Features}
 use Rattle.commands.specs.declared.Command.{Command}
 use Rattle.commands.specs.declared.Decoded.TheVariants.{Legal}
@@ -27,19 +26,19 @@ use Rattle.runs.proofs.Turns.{plus-plus}
 use Rattle.promises.specs.Swept.{Swept, Exact}
 
 module _ (f : Features) (queue : List ℕ) (c : Command) where
-  is-remove : (m : Memory) (i : ℕ) → control.standing (control_of m) ≡ Open → at_rd f queue m ≡ Legal c → scan f c m (rows_in m) 0 ≡ Some i
+  is-remove : (m : Memory) (i : ℕ) → control.standing (control_of m) ≡ None → at_rd f queue m ≡ Legal c → scan f c m (rows_in m) 0 ≡ Some i
       → due_in f queue m ≡ stores Remove (cleared m i)
   unfolding due due_for
   is-remove m i on legal e = rw (on, legal, e)
 
-  is-consume : (m : Memory) → control.standing (control_of m) ≡ Open → at_rd f queue m ≡ Legal c → scan f c m (rows_in m) 0 ≡ None
+  is-consume : (m : Memory) → control.standing (control_of m) ≡ None → at_rd f queue m ≡ Legal c → scan f c m (rows_in m) 0 ≡ None
       → due_in f queue m ≡ stores (Consume (syncs_of (Legal c))) (storedIn m (after_command (Legal c) (control_of m)))
   unfolding due due_for
   is-consume m on legal e = rw (on, legal, e)
 
   module _ (n : ℕ) where
     -- no row is in scope: the command is consumed at once
-    none_left : (m : Memory) → Accepts m n → control.standing (control_of m) ≡ Open → at_rd f queue m ≡ Legal c
+    none_left : (m : Memory) → Accepts m n → control.standing (control_of m) ≡ None → at_rd f queue m ≡ Legal c
         → ((i : ℕ) → i < n → scoped_at f c m i ≡ false) → Exact f queue c n 0 m
     unfolding run_by
     none_left m a on legal out =
@@ -58,7 +57,7 @@ module _ (f : Features) (queue : List ℕ) (c : Command) where
         }
 
     -- the lowest row goes first, and the rest as from there
-    one_more : (m : Memory) (s i : ℕ) → Accepts m n → control.standing (control_of m) ≡ Open → at_rd f queue m ≡ Legal c → scan f c m (rows_in m) 0 ≡ Some i
+    one_more : (m : Memory) (s i : ℕ) → Accepts m n → control.standing (control_of m) ≡ None → at_rd f queue m ≡ Legal c → scan f c m (rows_in m) 0 ≡ Some i
         → Exact f queue c n s (cleared m i) → Exact f queue c n (suc s) m
     unfolding run_by
     one_more m s i a on legal e x =
@@ -90,8 +89,8 @@ module _ (f : Features) (queue : List ℕ) (c : Command) where
         stays w low j h q (no d) =
             w.spared j h (memory.scoped_other f c m i j d ∙ q) ∙ memory.word_other m i j d
 
-    scan_case : (s : ℕ) (m : Memory) → Accepts m n → control.standing (control_of m) ≡ Open → at_rd f queue m ≡ Legal c → count (scoped_at f c m) n ≡ suc s
-        → ((m'' : Memory) → Accepts m'' n → control.standing (control_of m'') ≡ Open → at_rd f queue m'' ≡ Legal c → count (scoped_at f c m'') n ≡ s → Exact f queue c n s m'')
+    scan_case : (s : ℕ) (m : Memory) → Accepts m n → control.standing (control_of m) ≡ None → at_rd f queue m ≡ Legal c → count (scoped_at f c m) n ≡ suc s
+        → ((m'' : Memory) → Accepts m'' n → control.standing (control_of m'') ≡ None → at_rd f queue m'' ≡ Legal c → count (scoped_at f c m'') n ≡ s → Exact f queue c n s m'')
         → (x : Option ℕ) → scan f c m (rows_in m) 0 ≡ x → Exact f queue c n (suc s) m
     scan_case s m a on legal total ih (Some i) e =
         let low = lowest-scoped f c m (rows_in m) i e in
@@ -107,7 +106,7 @@ module _ (f : Features) (queue : List ℕ) (c : Command) where
         absurd (omega (arith, zeroes, total))
 
     -- exactly the rows in scope, for every legal command at RD
-    pub exact : (s : ℕ) (m : Memory) → Accepts m n → control.standing (control_of m) ≡ Open → at_rd f queue m ≡ Legal c
+    pub exact : (s : ℕ) (m : Memory) → Accepts m n → control.standing (control_of m) ≡ None → at_rd f queue m ≡ Legal c
         → count (scoped_at f c m) n ≡ s → Exact f queue c n s m
     exact zero m a on legal total = none_left m a on legal (count_none_passes (scoped_at f c m) n total)
     exact (suc s) m a on legal total = scan_case s m a on legal total (λ m'' b o l t. exact s m'' b o l t) (scan f c m (rows_in m) 0) refl

@@ -1,10 +1,9 @@
 -- Document 01, Bench cases: those with a star, each as what the definitions give and what it should be.
 -- Assumes nothing.
-use Rattle.std.specs.Prelude.{ℕ, ◌+◌, Bool, true, false, ◌&&◌, List, [], ◌∷◌, eqb}
+use Rattle.std.specs.Prelude.{ℕ, ◌+◌, Bool, true, false, ◌&&◌, List, [], ◌∷◌, eqb, None, Option, Some}
 use Rattle.words.specs.Choice.{pick}
+use Rattle.control.specs.declared.Rest.{Rest}
 use Rattle.control.specs.Control as control
-use Rattle.control.specs.declared.Standing.{Standing}
-use Rattle.control.specs.declared.Standing.TheVariants.{Resting, Open}
 use Rattle.control_stores.specs.Stores as stores
 use Rattle.combining.specs.Combining.{combine}
 use Rattle.rows.specs.declared.Row.{Row}
@@ -69,9 +68,9 @@ ste_row stream = record { w0 = 0x9; w1 = 0x40_0000_0000_0000 + stream; w2 = 0; w
 abbrev stage_row : Row
 stage_row = record { w0 = 0x000f_1234_0005_018d; w1 = 0; w2 = 0; w3 = 0 }
 
-abbrev is_open : Standing → ℕ
-is_open (Resting rest) = 0
-is_open Open = 1
+abbrev is_open : Option Rest → ℕ
+is_open (Some rest) = 0
+is_open None = 1
 
 -- LOG2SIZE 8, RD 0x1ff, WR 0, enabled
 abbrev at_the_wrap : ℕ

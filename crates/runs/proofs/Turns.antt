@@ -11,8 +11,6 @@ use mir.Syntax.{w64}
 use Rattle.std.specs.Prelude.{None, Option, Some}
 use Rattle.control.specs.Control as control
 use Rattle.control.specs.declared.Rest.{Rest}
-use Rattle.control.specs.declared.Standing.{Standing}
-use Rattle.control.specs.declared.Standing.TheVariants.{Resting, Open}
 use Rattle.commands.specs.declared.Features.{Features}
 use Rattle.commands.specs.declared.Command.{Command}
 use Rattle.commands.specs.declared.Decoded.{Decoded}
@@ -67,7 +65,7 @@ module _ {M : Type 0} (f : M → Next M) (m : M) where
   run-next zero h = absurd (omega arith)
   run-next (suc k) h = let e : suc k - 1 ≡ k = omega arith in rw e
 
-pub due-rests : (f : Features) (queue : List ℕ) (m : Memory) (e : Rest) → control.standing (control_of m) ≡ Resting e → due_in f queue m ≡ rests e
+pub due-rests : (f : Features) (queue : List ℕ) (m : Memory) (e : Rest) → control.standing (control_of m) ≡ Some e → due_in f queue m ≡ rests e
 unfolding due
 due-rests f queue m e h = rw h
 
@@ -101,7 +99,7 @@ pub record Rows (m₀ : Memory) (queue : List ℕ) (f : Features) (A left₀ c�
   pub asks : d ≡ decode_at f queue (control.slot w)
   pub counts : sync ≡ syncs_of d
   pub one : sync ≤ 1
-  pub on : control.standing w ≡ Open
+  pub on : control.standing w ≡ None
   pub ready : Ready f d from m
   pub less : left ≤ left₀
 
@@ -207,14 +205,14 @@ begun M queue f A fit small =
     }
 
 module _ {M : Memory} {queue : List ℕ} {f : Features} {A : ℕ} {m₀ : Memory} {left₀ c₀ s₀ r₀ y₀ : ℕ} (turns : Turns M queue f A m₀ left₀ c₀ s₀ r₀ y₀) where
-  pub rest_end : {st : Standing} {rest : Rest} {e : End} → st ≡ control.standing (control_of m₀) → st ≡ Resting rest → e ≡ end_of rest
+  pub rest_end : {st : Option Rest} {rest : Rest} {e : End} → st ≡ control.standing (control_of m₀) → st ≡ Some rest → e ≡ end_of rest
       → Does f queue A M m₀ (record { end = e; consumed = c₀; stores = s₀; removed = r₀; syncs = y₀ })
   rest_end {rest = rest} {e = e} a b h =
       rw h
       (ended f queue A M m₀ (end_of rest) c₀ s₀ r₀ y₀
       (turns.so_far ∙ ap (plus c₀ s₀ r₀ y₀) (run-rests (due_in f queue) m₀ left₀ rest (due-rests f queue m₀ rest (sym a ∙ b)))))
 
-  pub opened : {st : Standing} {d : Decoded} {sync : ℕ} → st ≡ control.standing (control_of m₀) → st ≡ Open → d ≡ decode_at f queue (control.slot (control_of m₀)) → (sync ≡ syncs_of d) × (sync ≤ 1)
+  pub opened : {st : Option Rest} {d : Decoded} {sync : ℕ} → st ≡ control.standing (control_of m₀) → st ≡ None → d ≡ decode_at f queue (control.slot (control_of m₀)) → (sync ≡ syncs_of d) × (sync ≤ 1)
       → Rows m₀ queue f A left₀ c₀ s₀ r₀ y₀ (control_of m₀) d sync m₀ left₀ c₀ s₀ r₀ y₀ 0
   opened {d = d} a b asks count =
       let k = turns.kept in

@@ -7,7 +7,7 @@ ghost use Rattle.runs.specs.Running.{end_of, Does, Fit};
 
 use crate::{End, Ran};
 use commands::{Decoded, Features};
-use control::{Rest, Standing};
+use control::Rest;
 use due::Stepped;
 
 // 16 bytes for each slot.
@@ -48,7 +48,7 @@ pub fn go(kept: &mut [u64], table: &mut [u64], queue: &[u8], f: Features, allowa
     let mut syncs: u64 = 0;
     let end = 'run: loop {
         let w = kept[0];
-        if let Standing::Resting(rest) = control::standing_of(w) {
+        if let Some(rest) = control::standing_of(w) {
             break 'run end_of(rest);
         }
         let d = command_at(f, queue, w);

@@ -7,6 +7,4 @@ use Rattle.indexes.proofs.next.Goals as goal
 
 pub returns : goal.returns
 unfolding next
-returns c =
-    let s = c in
-    rw (c.power.ensures.0, c.wrapping_add_u64.ensures.value) (mod_64 (s.args.n + 1) (s.args.rd + 1) (omega (arith, s.requires)))
+returns c = rw c.power.ensures.0 (mod_64 (c.args.n + 1) (c.args.rd + 1) (omega (arith, c.requires)))

@@ -1,5 +1,6 @@
 -- `runs::running::go` meets its contract: at each turn the rest of the run is the run from there.
 -- Assumes nothing.
+use Rattle.std.specs.Prelude.{Some}
 use Rattle.runs.proofs.Turns.{go_remove, consumed-on, rest_end, cut-end, raise-end, from-fits}
 use Rattle.runs.proofs.running.go.Goals as goal
 
@@ -12,8 +13,8 @@ rows-preserved c = search go_remove
 pub run-preserved : goal.run-preserved
 run-preserved c = search consumed-on
 
-pub returns-in-Resting : goal.returns-in-Resting
-returns-in-Resting c = search rest_end
+pub returns-in-Some : goal.returns-in-Some
+returns-in-Some c = search rest_end
 
 pub returns-then-left-eq0 : goal.returns-then-left-eq0
 returns-then-left-eq0 c = search cut-end
