@@ -13,7 +13,7 @@ pub enum RegistersRefusal {
     NoError,
 }
 
-// What is answered, and GERRORN then.
+// What is answered, and GERRORN then: a value also where an acknowledge is refused, so no Result alone (definition `decided`).
 #[derive(Clone, Copy)]
 pub struct Decision {
     pub answer: Result<(), RegistersRefusal>,

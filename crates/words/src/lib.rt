@@ -76,13 +76,6 @@ pub fn overlap(a: u64, n: u64, b: u64, k: u64) -> bool
     a - b < k
 }
 
-// A byte as a word.
-pub fn wide(x: u8) -> u64
-    ensures { (result ≡ x) × (result < 256) }
-{
-    x as u64
-}
-
 // The word of the eight bytes from `at` on.
 pub fn word_at(bytes: &[u8], at: usize) -> u64
     requires { at + 8 ≤ length bytes.now }
