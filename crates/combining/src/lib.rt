@@ -10,10 +10,10 @@ use attributes::Attributes;
 // The MemAttrs that have three numbers each.
 const NORMALS: [u8; 8] = [6, 7, 9, 10, 11, 13, 14, 15];
 
-// By MemAttr, its place in NORMALS; 8 if it has none.
+// By MemAttr, its place in NORMALS; 8 if it has none. A search of NORMALS in its stead would be no plainer.
 const PLACES: [u8; 16] = [8, 8, 8, 8, 8, 8, 0, 1, 8, 2, 3, 4, 8, 5, 6, 7];
 
-// At a * 29 + b, what a and b combine to.
+// At a * 29 + b, what a and b combine to: flat, a number a cell, so that one computed test proves all 841.
 const COMBINED: [u8; 841] = [
     0, 0, 0, 0, 0, 0, 0, 0, 0, 0, 0, 0, 0, 0, 0, 0, 0, 0, 0, 0, 0, 0, 0, 0, 0, 0, 0, 0, 0, 0, 1, 1,
     1, 1, 1, 1, 1, 1, 1, 1, 1, 1, 1, 1, 1, 1, 1, 1, 1, 1, 1, 1, 1, 1, 1, 1, 1, 1, 0, 1, 2, 2, 2, 2,

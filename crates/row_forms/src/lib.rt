@@ -82,6 +82,7 @@ fn inside(row: Row, m: Row) -> bool
         & (row.w3 & m.w3 == row.w3)
 }
 
+// 1 to 3 are ill formed: a range of numbers, which an enum of the others would say no plainer.
 fn known_config(c: u64) -> bool
     ensures { result ≡ known_config c }
 {

@@ -22,7 +22,8 @@ pub struct Row {
     pub w3: u64,
 }
 
-// The parts of words 0 and 1, but for the attributes.
+// The parts of words 0 and 1, but for the attributes: of every kind of row at once, since contracts (`scopes::in_scope`,
+// `doubles::collides`) speak of the parts of ill-formed rows too, and Config as a number, since `inspect` prints that of such a row.
 #[derive(Clone, Copy)]
 pub struct Parts {
     pub kind: Kind,
