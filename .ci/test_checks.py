@@ -128,9 +128,9 @@ def edits():
 
 def stores():
     step = 'fn step(kept: &mut [u64], i: usize)\n    ensures { λ r. ⌜ now (kept .exit) ≡ set (now (kept .entry)) i 0 ⌝ }\n{\n    kept[4 * i + 1] = 0;\n}\n'
-    expect('a step may store', writes.wrong('fills', step) == [])
+    expect('a step may store', writes.wrong('stores', step) == [])
     expect('a step of another crate may not', len(writes.wrong('image', step)) == 1)
-    expect('a step may not store twice', len(writes.wrong('fills', step.replace('= 0;', '= 0;\n    kept[0] = 1;'))) == 1)
+    expect('a step may not store twice', len(writes.wrong('stores', step.replace('= 0;', '= 0;\n    kept[0] = 1;'))) == 1)
     bounded = step.replace('fn step(', "fn step<'a, T: Into<u64>, F: Fn(usize) -> bool>(passes: F, ")
     expect('a function with bounds is seen', len(writes.wrong('image', bounded)) == 1 and bounded != step)
     expect('a run may not store', len(writes.wrong('runs', step.replace('fn step', 'pub fn go'))) == 1)
@@ -215,11 +215,11 @@ def folders():
             write(root, 'crates/%s/src/lib.rt' % crate, 'fn %s(kept: &mut [u64]) { %s }\n' % (name, 'kept[0] = 1; ' * count), 'a')
         write(root, 'crates/text/src/lib.rt', 'fn put(out: &mut [u64]) { out[0] = 1; }\n')
         write(root, 'crates/cases/src/main.rt', 'fn main() {}\n')
-        write(root, 'crates.txt', '# programs\ntext:\nfills: words\ncases: fills text\n')
+        write(root, 'crates.txt', '# programs\ntext:\nstores: words\ncases: stores text\n')
         expect('the functions of the table', writes.main(os.path.join(root, 'crates')) == 0)
-        write(root, 'crates.txt', 'text:\nfills: words text\n')
+        write(root, 'crates.txt', 'text:\nstores: words text\n')
         expect('the unit rests on what serves the programs', writes.main(os.path.join(root, 'crates')) == 1)
-        write(root, 'crates.txt', 'text:\nfills: words\n')
+        write(root, 'crates.txt', 'text:\nstores: words\n')
         write(root, 'crates/due/src/more.rt', 'fn step(kept: &mut [u64]) { kept[0] = 1; kept[1] = 1; kept[2] = 1; }\n')
         expect('a second step', writes.main(os.path.join(root, 'crates')) == 1)
 

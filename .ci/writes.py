@@ -17,16 +17,13 @@ import sys
 LENT = {
     # words of kept memory, second table and recorder, of which a call makes at most one
     ('due', 'step'): 4,
-    ('fills', 'step'): 1,
+    ('stores', 'step'): 1,
     ('control_calls', 'doorbell'): 1,
     ('control_calls', 'acknowledge'): 1,
     ('control_calls', 'clear_pending'): 1,
     ('control_calls', 'enable'): 1,
-    ('event_calls', 'step'): 2,
-    ('event_calls', 'drop_one'): 1,
     ('event_calls', 'read'): 1,
     ('event_calls', 'acknowledge'): 1,
-    ('region_fills', 'step'): 1,
     ('batch_writes', 'ring'): 1,
     # the bytes of a slot: those of one word
     ('words', 'store_at'): 8,

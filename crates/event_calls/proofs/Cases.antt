@@ -7,8 +7,10 @@ use Prim.Native.Nat.{ℕ, ◌+◌, ◌*◌, ◌≤◌, ◌<◌}
 use native.Mathlib.Omega.{arith}
 use lib.ListN.{length, set}
 use Rattle.words.specs.Outcomes.{Outcome, with, Gives}
-use Rattle.words.specs.Stores.{Store, after_stores}
-use Rattle.words.proofs.Stores.{after-all}
+use Rattle.stores.specs.declared.Store.{Store}
+use Rattle.stores.specs.Stores.{after_stores, Within}
+use Rattle.events.specs.declared.Record.{Record}
+use Rattle.stores.proofs.Laws.{after-all}
 use Rattle.events.specs.declared.Refusal.{Refusal}
 use Rattle.std.specs.Prelude.{Err, Ok, Result}
 use Rattle.events.specs.Word.{outstanding, is_empty, is_full, oldest, free}
@@ -33,6 +35,15 @@ pub meets-done : {o : Outcome (List ℕ) (Result Writing Refusal)} {m m' : List 
     → o ≡ done m ss end k → Gives o m' (Ok r)
 meets-done s e = record { answers = rw e (ap Ok s.reports); leaves = rw e s.leaves }
 
+-- the stores that are due for a record that is dropped, by what the flags say
+pub drops-none : (w : ℕ) → outstanding w ≡ true → drop_stores w ≡ []
+unfolding drop_stores
+drops-none w e = rw e
+
+pub drops-flip : (w : ℕ) → outstanding w ≡ false → drop_stores w ≡ record { at = 0; value = flipped w } ∷ []
+unfolding drop_stores
+drops-flip w e = rw e
+
 -- a record dropped, by what the flags and the allowance say
 module _ (m : List ℕ) (k : ℕ) where
   abbrev pub Drops : List ℕ → Writing → Type 0
@@ -55,6 +66,10 @@ module _ (m : List ℕ) (k : ℕ) where
   drops-flipped e z =
       let enough : 1 ≤ k = omega (arith, z) in
       rw e (record { reports = rw (report-all flip Dropped k enough); leaves = rw (after-all k flip m enough) })
+
+-- a record's stores go into its slot and to the index word
+pub stores_within : (m : List ℕ) (slot : ℕ) (r : Record) (index : ℕ) → 4 * slot + 5 ≤ length m → Within (length m) (write_stores slot r index)
+stores_within m slot r index h = (omega arith, (omega arith, (omega arith, (omega arith, (omega arith, tt)))))
 
 module _ (m : List ℕ) where
   -- an accepted recorder has an index word, and the slots that it names

@@ -9,8 +9,9 @@ use Prim.Native.Nat.{ℕ, ◌≤◌, ◌<◌}
 use native.Mathlib.Omega.{arith}
 use lib.ListN.{length}
 use Rattle.words.specs.Outcomes.{Outcome, with}
-use Rattle.words.specs.Stores.{Store, after_stores}
-use Rattle.words.proofs.Stores.{after_none, after-all, over_cut}
+use Rattle.stores.specs.declared.Store.{Store}
+use Rattle.stores.specs.Stores.{after_stores}
+use Rattle.stores.proofs.Laws.{after_none, after-all, over_cut}
 use Rattle.words.proofs.Truth.{less_or_not}
 use Rattle.events.specs.declared.Refusal.{Refusal}
 use Rattle.std.specs.Prelude.{Err, Ok, Result}

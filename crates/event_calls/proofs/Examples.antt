@@ -6,7 +6,7 @@ use Prim.Native.Nat.{ℕ, zero, suc}
 use Rattle.words.specs.Parts.{part, put}
 use Rattle.words.specs.Bytes.{word_at}
 use Rattle.words.specs.Search.{lowest}
-use Rattle.words.specs.Stores.{after_stores}
+use Rattle.stores.specs.Stores.{after_stores}
 use Rattle.indexes.specs.Indexes as indexes
 use Rattle.events.specs.Word as word
 use Rattle.events.specs.Stores as stores

@@ -8,7 +8,8 @@ use Prim.Native.Nat.{ℕ, ◌≤◌, ◌<◌}
 use native.Mathlib.Omega.{arith}
 use lib.ListN.{set, length-set}
 use Rattle.words.specs.Outcomes.{Outcome, with}
-use Rattle.words.specs.Stores.{Store, after_stores}
+use Rattle.stores.specs.declared.Store.{Store}
+use Rattle.stores.specs.Stores.{after_stores}
 use Rattle.words.proofs.Truth.{less_or_not}
 use Rattle.events.specs.declared.Record.{Record}
 use Rattle.events.specs.declared.Refusal.{Refusal}

@@ -1,16 +1,18 @@
--- The stores of a write, one after another.
+-- The stores of a write, and what is reported of them.
 -- Assumes nothing.
-use mathlib.Core.Path.{◌≡◌, refl}
+use mathlib.Core.Path.{◌≡◌, refl, sym}
 use mathlib.Core.List.{List}
 use Prim.Native.Nat.{ℕ, ◌+◌, ◌*◌, ◌≤◌, ◌<◌}
 use native.Mathlib.Omega.{arith}
-use lib.ListN.{length, set}
+use lib.ListN.{length}
 use borrow.Author.Tests.{lt-ltb, le-ltb}
-use Rattle.words.specs.Stores.{Store}
-use Rattle.words.proofs.Stores.{each-place, Storing, again, cut-leaves, all_made}
+use Rattle.stores.specs.declared.Store.{Store}
+use Rattle.std.specs.Prelude.{min}
+use Rattle.stores.specs.Stores.{after_stores}
+use Rattle.stores.proofs.Laws.{each-place}
 use Rattle.events.specs.declared.Record.{Record}
 use Rattle.event_calls.specs.declared.WriteEnd.{WriteEnd}
-use Rattle.event_calls.specs.declared.WriteEnd.TheVariants.{Stored, Cut}
+use Rattle.event_calls.specs.declared.WriteEnd.TheVariants.{Cut}
 use Rattle.event_calls.specs.Calls.{write_stores, store_at, report, Stores}
 
 -- where the store at a place goes, and what it stores whatever the slot is: a word of the record, and last the index word
@@ -33,23 +35,10 @@ module _ (ss : List Store) (end : WriteEnd) (k : ℕ) where
   unfolding report
   report-all h = rw (le-ltb k (length ss) h)
 
--- the loop of the stores, by what it has made so far
-module _ (m₀ : List ℕ) (slot : ℕ) (r : Record) (index : ℕ) {allowance place stores : ℕ} {m : List ℕ}
-    (now : Storing m₀ (write_stores slot r index) allowance place stores m) where
-  pub continues : {m' : List ℕ} → place < 5 → (stores ≡ allowance → ⊥)
-      → m' ≡ set m (store_at slot r index place).at (store_at slot r index place).value
-      → Storing m₀ (write_stores slot r index) allowance (place + 1) (stores + 1) m'
-  unfolding store_at
-  continues h left e = again m₀ (write_stores slot r index) allowance now h left e
+  -- by how many were made
+  module _ {m₀ m : List ℕ} {made : ℕ} (counted : made ≡ min k (length ss)) (left : m ≡ after_stores k ss m₀) where
+    pub ends-cut : made < length ss → Stores ss end k m₀ m (record { end = Cut; stores = made })
+    ends-cut h = let e : made ≡ k = omega (arith, counted) in record { reports = rw e (sym (report-cut (omega (arith, counted, h)))); leaves = left }
 
-  pub ends-cut : place < 5 → stores ≡ allowance → Stores (write_stores slot r index) Stored allowance m₀ m (record { end = Cut; stores = stores })
-  ends-cut h e =
-      record {
-        reports = rw (report-cut (write_stores slot r index) Stored allowance (omega (arith, now.counted)), e);
-        leaves = cut-leaves m₀ (write_stores slot r index) allowance now e;
-      }
-
-  pub ends-stored : 5 ≤ place → Stores (write_stores slot r index) Stored allowance m₀ m (record { end = Stored; stores = stores })
-  ends-stored h =
-      let all = all_made m₀ (write_stores slot r index) allowance now h in
-      record { reports = rw (report-all (write_stores slot r index) Stored allowance all.1, all.0); leaves = all.2 }
+    pub ends-all : length ss ≤ made → Stores ss end k m₀ m (record { end = end; stores = made })
+    ends-all h = let e : made ≡ length ss = omega (arith, counted) in record { reports = rw e (sym (report-all (omega (arith, counted, h)))); leaves = left }

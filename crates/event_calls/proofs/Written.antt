@@ -8,8 +8,9 @@ use Prim.Native.Nat.{ℕ, zero, suc, ◌+◌, ◌*◌, ◌≤◌, ◌<◌}
 use native.Mathlib.Omega.{arith}
 use lib.ListN.{length, get_or, set}
 use lib.Seq.{get_or-set_same, get_or-set_other}
-use Rattle.words.specs.Stores.{Store, store_in, after_stores}
-use Rattle.words.proofs.Stores.{after-all, after_length, stores_keep, untouched}
+use Rattle.stores.specs.declared.Store.{Store}
+use Rattle.stores.specs.Stores.{store_in, after_stores}
+use Rattle.stores.proofs.Laws.{after-all, after_length, stores_keep, untouched}
 use Rattle.words.proofs.Truth.{less_or_not}
 use Rattle.events.specs.declared.Record.{Record}
 use Rattle.events.specs.Word.{is_full, free}

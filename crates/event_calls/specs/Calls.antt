@@ -3,7 +3,8 @@
 use Rattle.std.specs.Prelude.{◌≡◌, not, List, [], ◌∷◌, ℕ, ◌+◌, ◌*◌, ltb, length, set, Err, Ok, Result, ⊤}
 use Rattle.words.specs.Choice.{pick}
 use Rattle.words.specs.Outcomes.{Outcome, with}
-use Rattle.words.specs.Stores.{Store, store_in, after_stores}
+use Rattle.stores.specs.declared.Store.{Store}
+use Rattle.stores.specs.Stores.{store_in, after_stores}
 use Rattle.events.specs.declared.Record.{Record}
 use Rattle.events.specs.Word.{outstanding, is_empty, is_full, oldest, free}
 use Rattle.events.specs.Stores.{written, read_out, flipped, acknowledged}

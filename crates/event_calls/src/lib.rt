@@ -2,14 +2,16 @@
 // Reading the oldest and acknowledging an overflow make one store each, or none.
 #![tactic(auto)]
 
-ghost use Rattle.std.specs.Prelude.{◌≡◌, ◌+◌, ◌*◌, ◌≤◌, ◌<◌, length, set};
+ghost use Rattle.std.specs.Prelude.{◌≡◌, ◌+◌, ◌*◌, ◌^◌, ◌≤◌, ◌<◌, length};
+ghost use Rattle.stores.specs.Stores.{Within};
 ghost use Rattle.words.specs.Outcomes.{Gives};
 ghost use Rattle.events.specs.Events.{index_of};
 ghost use Rattle.event_calls.specs.declared.ReadRefusal.TheVariants.{Recorder as OfRecorder};
 ghost use Rattle.event_calls.specs.declared.AcknowledgeRefusal.TheVariants.{Recorder as ByRecorder};
-ghost use Rattle.event_calls.specs.Calls.{write_stores, store_at, drop_stores, Stores, write, read, acknowledge};
+ghost use Rattle.event_calls.specs.Calls.{write_stores, drop_stores, Stores, write, read, acknowledge};
 
 use events::Record;
+use stores::Store;
 
 // How a write ends.
 #[derive(Clone, Copy)]
@@ -56,53 +58,50 @@ impl From<events::Refusal> for AcknowledgeRefusal {
     }
 }
 
-// The word of a record that the store at a place takes.
-fn word_of(event: Record, place: usize) -> u64
-    requires { place < 4 }
-    ensures { result ≡ (store_at 0 event 0 place).value }
+// The stores of a record in their order: the slot's four words, and last the index word, by which the record is one that waits.
+fn write_stores(slot: usize, event: Record, index: u64) -> [Store; 5]
+    requires { 4 * slot + 5 ≤ 2 ^ 64 }
+    ensures { result ≡ write_stores slot event index }
 {
-    match place {
-        0 => event.w0,
-        1 => event.w1,
-        2 => event.w2,
-        _ => event.w3,
-    }
+    [
+        Store {
+            at: 4 * slot + 1,
+            value: event.w0,
+        },
+        Store {
+            at: 4 * slot + 2,
+            value: event.w1,
+        },
+        Store {
+            at: 4 * slot + 3,
+            value: event.w2,
+        },
+        Store {
+            at: 4 * slot + 4,
+            value: event.w3,
+        },
+        Store {
+            at: 0,
+            value: index,
+        },
+    ]
 }
 
-// Makes the one store at a place, and no other: a word of the slot, or after the four the index word.
-fn step(kept: &mut [u64], slot: usize, event: Record, index: u64, place: usize)
-    requires { (4 * slot + 5 ≤ length kept.old) × (place < 5) }
-    ensures { kept.new ≡ set kept.old (store_at slot event index place).at (store_at slot event index place).value }
+// Makes the stores of a write in their order, while the allowance lasts; with all of them made it ends as is said.
+fn steps(kept: &mut [u64], due: &[Store], end: WriteEnd, allowance: u64) -> Writing
+    requires { Within (length kept.old) due.now }
+    ensures { Stores due.now end allowance kept.old kept.new result }
 {
-    if place < 4 {
-        let at = 4 * slot + 1 + place;
-        kept[at] = word_of(event, place);
-        return;
-    }
-    kept[0] = index;
-}
-
-// Makes the five stores from the first on, while the allowance lasts.
-fn steps(kept: &mut [u64], slot: usize, event: Record, index: u64, allowance: u64) -> Writing
-    requires { 4 * slot + 5 ≤ length kept.old }
-    ensures { Stores (write_stores slot event index) WriteEnd.Stored allowance kept.old kept.new result }
-{
-    let mut place: usize = 0;
-    let mut stores: u64 = 0;
-    while place < 5 {
-        if stores == allowance {
-            return Writing {
-                end: WriteEnd::Cut,
-                stores: stores,
-            };
-        }
-        step(&mut *kept, slot, event, index, place);
-        place += 1;
-        stores += 1;
+    let made = stores::make(&mut *kept, due, allowance);
+    if made < due.len() as u64 {
+        return Writing {
+            end: WriteEnd::Cut,
+            stores: made,
+        };
     }
     Writing {
-        end: WriteEnd::Stored,
-        stores: stores,
+        end: end,
+        stores: made,
     }
 }
 
@@ -113,22 +112,13 @@ fn drop_one(kept: &mut [u64], allowance: u64) -> Writing
 {
     let w = kept[0];
     if events::outstanding(w) {
-        return Writing {
-            end: WriteEnd::Dropped,
-            stores: 0,
-        };
+        return steps(&mut *kept, &[], WriteEnd::Dropped, allowance);
     }
-    if allowance == 0 {
-        return Writing {
-            end: WriteEnd::Cut,
-            stores: 0,
-        };
-    }
-    kept[0] = events::flipped(w);
-    Writing {
-        end: WriteEnd::Dropped,
-        stores: 1,
-    }
+    let flip = [Store {
+        at: 0,
+        value: events::flipped(w),
+    }];
+    steps(&mut *kept, &flip, WriteEnd::Dropped, allowance)
 }
 
 // Writes a record of 32 bytes behind those that wait, or drops it if the ring is full; refused for the recorder only.
@@ -144,7 +134,8 @@ pub fn write(kept: &mut [u64], bytes: &[u8; 32], allowance: u64) -> Result<Writi
     let slot = events::free(w) as usize;
     let event = events::record_of(bytes);
     let index = events::written(w);
-    let written = steps(&mut *kept, slot, event, index, allowance);
+    let due = write_stores(slot, event, index);
+    let written = steps(&mut *kept, &due, WriteEnd::Stored, allowance);
     Ok(written)
 }
 

@@ -12,9 +12,9 @@ use lib.Dec.{eqb}
 use lib.ListN.{length, get_or, set}
 use lib.Seq.{get_or-set_same, get_or-set_other}
 use borrow.Author.Tests.{not-true, not-false}
-use Rattle.words.specs.Stores.{store_in, after_stores}
+use Rattle.stores.specs.Stores.{store_in, after_stores}
 use Rattle.words.specs.Outcomes.{Outcome}
-use Rattle.words.proofs.Stores.{each-place, after-all, after_length, stores_keep, untouched, over_cut}
+use Rattle.stores.proofs.Laws.{each-place, after-all, after_length, stores_keep, untouched, over_cut}
 use Rattle.words.proofs.Truth.{left, right, and_true, less_or_not}
 use Rattle.rows.specs.declared.Row.{Row}
 use Rattle.rows.specs.Rows.{is_empty}

@@ -1,9 +1,10 @@
 -- Document 01, One run: filling a row. When the unit says no: refusals 7, 8 and 9, and 11 of document 02, T-02.
 -- Assumes nothing.
-use Rattle.std.specs.Prelude.{◌≡◌, Bool, not, ◌&&◌, List, [], ◌∷◌, ℕ, ◌+◌, ◌*◌, leb, ltb, Err, Ok, Result}
+use Rattle.std.specs.Prelude.{Bool, not, ◌&&◌, List, [], ◌∷◌, ℕ, ◌+◌, ◌*◌, leb, ltb, Err, Ok, Result}
 use Rattle.words.specs.Choice.{pick}
 use Rattle.words.specs.Outcomes.{Outcome, with}
-use Rattle.words.specs.Stores.{Store, store_in, after_stores}
+use Rattle.stores.specs.declared.Store.{Store}
+use Rattle.stores.specs.Stores.{after_stores}
 use Rattle.rows.specs.declared.Row.{Row}
 use Rattle.rows.specs.Rows.{is_empty}
 use Rattle.row_forms.specs.WellFormed as rows
@@ -36,15 +37,15 @@ fill_stores row words =
     ∷ record { at = 4 * row + 1; value = words.w0 }
     ∷ []
 
--- the one at a place of the list, counted from 0
-unfoldable pub store_at : ℕ → Row → ℕ → Store
-store_at row words place = store_in (fill_stores row words) place
-
 -- a row may be filled with these words
 unfoldable pub fit : Row → Bool
 fit words = rows.well_formed words && not (is_empty words)
 
--- what is reported under an allowance of k: four stores, or cut after k
+-- what is reported of n stores under an allowance of k: all of them, or cut after k
+unfoldable pub report_of : ℕ → ℕ → Filling
+report_of n k = pick (ltb k n) (record { end = Cut; stores = k }) (record { end = Filled; stores = n })
+
+-- of a fill's four
 unfoldable pub report : ℕ → Filling
 report k = pick (ltb k 4) (record { end = Cut; stores = k }) (record { end = Filled; stores = 4 })
 
@@ -60,8 +61,3 @@ fill m row words k =
     (pick (not (fit words)) (refused Unfit m)
     (pick (doubled m n words) (refused Doubled m)
     (with (Ok (report k)) (after_stores k (fill_stores row words) m))))))
-
--- what the stores ensure, of the memory m before and m' after and of what is reported
-pub record Stores (m : List ℕ) (row : ℕ) (words : Row) (k : ℕ) (m' : List ℕ) (r : Filling) : Type 0 where
-  pub reports : r ≡ report k
-  pub leaves : m' ≡ after_stores k (fill_stores row words) m

@@ -1,12 +1,14 @@
 // Filling a row: its four words stored one at a time, word 0 last, so that a row is seen whole or not at all.
 #![tactic(auto)]
 
-ghost use Rattle.std.specs.Prelude.{◌≡◌, ◌+◌, ◌*◌, ◌≤◌, ◌<◌, length, set};
+ghost use Rattle.std.specs.Prelude.{◌≡◌, ◌+◌, ◌*◌, ◌^◌, ◌≤◌, length};
 ghost use Rattle.words.specs.Outcomes.{Gives};
 ghost use Rattle.fills.specs.declared.FillRefusal.TheVariants.{Image};
-ghost use Rattle.fills.specs.Fills.{store_at, fit, fill, Stores};
+ghost use Rattle.stores.specs.Stores.{Within, after_stores};
+ghost use Rattle.fills.specs.Fills.{fill_stores, fit, report_of, fill};
 
 use rows::Row;
+use stores::Store;
 
 // How a fill ends.
 #[derive(Clone, Copy)]
@@ -47,49 +49,47 @@ fn is_fit(words: Row) -> bool
     row_forms::well_formed(words) & !(words.w0 == 0)
 }
 
-// The word that the store at a place takes: 1, 2, 3, and 0 last.
-fn word_of(words: Row, place: usize) -> u64
-    requires { place < 4 }
-    ensures { result ≡ (store_at 0 words place).value }
+// The stores of a fill in their order: words 1, 2 and 3, and last word 0, which makes the row a used one.
+fn fill_stores(row: usize, words: Row) -> [Store; 4]
+    requires { 4 * row + 5 ≤ 2 ^ 64 }
+    ensures { result ≡ fill_stores row words }
 {
-    match place {
-        0 => words.w1,
-        1 => words.w2,
-        2 => words.w3,
-        _ => words.w0,
-    }
+    [
+        Store {
+            at: 4 * row + 2,
+            value: words.w1,
+        },
+        Store {
+            at: 4 * row + 3,
+            value: words.w2,
+        },
+        Store {
+            at: 4 * row + 4,
+            value: words.w3,
+        },
+        Store {
+            at: 4 * row + 1,
+            value: words.w0,
+        },
+    ]
 }
 
-// Makes the one store at a place, and no other.
-fn step(kept: &mut [u64], row: usize, words: Row, place: usize)
-    requires { (4 * row + 5 ≤ length kept.old) × (place < 4) }
-    ensures { kept.new ≡ set kept.old (store_at row words place).at (store_at row words place).value }
+// Makes the stores of a fill in their order, while the allowance lasts.
+pub fn steps(kept: &mut [u64], due: &[Store], allowance: u64) -> Filling
+    requires { Within (length kept.old) due.now }
+    ensures reports { result ≡ report_of (length due.now) allowance }
+    ensures leaves { kept.new ≡ after_stores allowance due.now kept.old }
 {
-    let at = 4 * row + 1 + (place + 1) % 4;
-    kept[at] = word_of(words, place);
-}
-
-// Makes the four stores from the first on, while the allowance lasts.
-fn steps(kept: &mut [u64], row: usize, words: Row, allowance: u64) -> Filling
-    requires { 4 * row + 5 ≤ length kept.old }
-    ensures { Stores kept.old row words allowance kept.new result }
-{
-    let mut place: usize = 0;
-    let mut stores: u64 = 0;
-    while place < 4 {
-        if stores == allowance {
-            return Filling {
-                end: FillEnd::Cut,
-                stores: stores,
-            };
-        }
-        step(&mut *kept, row, words, place);
-        place += 1;
-        stores += 1;
+    let made = stores::make(&mut *kept, due, allowance);
+    if made < due.len() as u64 {
+        return Filling {
+            end: FillEnd::Cut,
+            stores: made,
+        };
     }
     Filling {
         end: FillEnd::Filled,
-        stores: stores,
+        stores: made,
     }
 }
 
@@ -115,6 +115,7 @@ pub fn fill(
     if doubles::doubled(&*kept, n, words) {
         return Err(FillRefusal::Doubled);
     }
-    let done = steps(&mut *kept, row, words, allowance);
+    let due = fill_stores(row, words);
+    let done = steps(&mut *kept, &due, allowance);
     Ok(done)
 }

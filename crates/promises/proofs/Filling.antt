@@ -5,9 +5,9 @@ use mathlib.Core.List.{List, [], ◌∷◌}
 use mathlib.Core.Logic.{⊎_elim}
 use Prim.Native.Nat.{ℕ, ◌≤◌, ◌<◌}
 use native.Mathlib.Omega.{arith}
-use Rattle.words.specs.Stores.{after_stores}
+use Rattle.stores.specs.Stores.{after_stores}
 use Rattle.words.specs.Outcomes.{with}
-use Rattle.words.proofs.Stores.{after-all}
+use Rattle.stores.proofs.Laws.{after-all}
 use Rattle.words.proofs.Truth.{less_or_not}
 use Rattle.rows.specs.declared.Row.{Row}
 use Rattle.fills.specs.declared.FillEnd.TheVariants.{Filled, Cut}

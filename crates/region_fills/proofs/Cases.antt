@@ -3,11 +3,11 @@
 use mathlib.Core.Path.{◌≡◌, ap}
 use mathlib.Core.Bool.{true, false, not}
 use mathlib.Core.List.{List}
-use Prim.Native.Nat.{ℕ, ◌*◌, ◌≤◌, ◌<◌}
+use Prim.Native.Nat.{ℕ, ◌+◌, ◌*◌, ◌≤◌, ◌<◌}
 use native.Mathlib.Omega.{arith}
 use lib.ListN.{length, get_or}
 use borrow.Author.Tests.{eq-eqb, ne_eqb, le-leb, lt-leb}
-use Rattle.words.specs.Stores.{after_stores}
+use Rattle.stores.specs.Stores.{after_stores, Within}
 use Rattle.words.specs.Outcomes.{Outcome, with, Gives}
 use Rattle.image.specs.declared.Refusal.{Refusal as Image-as-Refusal}
 use Rattle.std.specs.Prelude.{Err, Ok, Result}
@@ -19,7 +19,9 @@ use Rattle.regions.specs.Table.{row_at, is_used, check}
 use Rattle.regions.proofs.Checks.{says}
 use Rattle.fills.specs.declared.Filling.{Filling}
 use Rattle.region_fills.specs.declared.FillRefusal.TheVariants.{Image, Table, NoSuchRow, RowInUse, Unfit}
-use Rattle.region_fills.specs.Fills.{fill_stores, fit, report, refused, fill_row, fill, Stores}
+use Rattle.region_fills.specs.Fills.{fill_stores, fit, report, refused, fill_row, fill}
+use Rattle.fills.specs.Fills.{report_of}
+use Rattle.stores.specs.declared.Store.{Store}
 
 -- carried out under an allowance of k
 abbrev pub done : List ℕ → ℕ → Region → ℕ → Outcome (List ℕ) (Result Filling FillRefusal)
@@ -75,6 +77,15 @@ module _ (m t : List ℕ) (row : ℕ) (words : Region) (k : ℕ) where
 pub as_given : {o o' : Outcome (List ℕ) (Result Filling FillRefusal)} {t' : List ℕ} {r : (Result Filling FillRefusal)} → o ≡ o' → Gives o' t' r → Gives o t' r
 as_given e g = rw e g
 
--- and what the stores ensured is the case of the stores
-pub meets-done : {t t' : List ℕ} {row : ℕ} {words : Region} {k : ℕ} {r : Filling} → Stores t row words k t' r → Gives (done t row words k) t' (Ok r)
-meets-done s = record { answers = ap Ok s.reports; leaves = s.leaves }
+-- and its stores, and what they are told to have left, are the case of the stores
+pub meets-done : (t : List ℕ) (row : ℕ) {words : Region} (k : ℕ) {t' : List ℕ} {due : List Store} {r : Filling} → due ≡ fill_stores row words
+    → r ≡ report_of (length due) k → t' ≡ after_stores k due t → Gives (done t row words k) t' (Ok r)
+unfolding report report_of
+meets-done t row {words} k {t'} {due} {r} d e f =
+    let told : r ≡ report k = rw d at e in
+    let left : t' ≡ after_stores k (fill_stores row words) t = rw d at f in
+    record { answers = ap Ok told; leaves = left }
+
+-- they go into the row
+pub stores_within : (t : List ℕ) (row : ℕ) (words : Region) → 2 * row + 2 ≤ length t → Within (length t) (fill_stores row words)
+stores_within t row words h = (omega arith, (omega arith, tt))

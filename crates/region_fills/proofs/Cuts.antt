@@ -6,8 +6,8 @@ use mathlib.Core.Logic.{⊎_elim}
 use Prim.Native.Nat.{ℕ, ◌≤◌, ◌<◌}
 use native.Mathlib.Omega.{arith}
 use Rattle.words.specs.Outcomes.{with}
-use Rattle.words.specs.Stores.{after_stores}
-use Rattle.words.proofs.Stores.{after-all}
+use Rattle.stores.specs.Stores.{after_stores}
+use Rattle.stores.proofs.Laws.{after-all}
 use Rattle.words.proofs.Truth.{less_or_not}
 use Rattle.regions.specs.declared.Region.{Region}
 use Rattle.fills.specs.declared.FillEnd.TheVariants.{Filled, Cut}

@@ -1,9 +1,10 @@
 -- Document 02, T-11: filling a row of the second lent table; refusals 13 and 14, and 7, 8 and 9 as they are read for it.
 -- Assumes nothing.
-use Rattle.std.specs.Prelude.{◌≡◌, Bool, not, ◌&&◌, List, [], ◌∷◌, ℕ, ◌+◌, ◌*◌, leb, ltb, Err, Ok, Result}
+use Rattle.std.specs.Prelude.{Bool, not, ◌&&◌, List, [], ◌∷◌, ℕ, ◌+◌, ◌*◌, leb, ltb, Err, Ok, Result}
 use Rattle.words.specs.Choice.{pick}
 use Rattle.words.specs.Outcomes.{Outcome, with}
-use Rattle.words.specs.Stores.{Store, store_in, after_stores}
+use Rattle.stores.specs.declared.Store.{Store}
+use Rattle.stores.specs.Stores.{after_stores}
 use Rattle.image.specs.Image as image
 use Rattle.regions.specs.declared.Region.{Region}
 use Rattle.regions.specs.Regions.{is_empty, well_formed}
@@ -24,10 +25,6 @@ number Unfit = 9
 -- the stores of a fill in their order: the base, and last word 0, which makes the row a used one
 abbrev pub fill_stores : ℕ → Region → List Store
 fill_stores row words = record { at = 2 * row + 1; value = words.w1 } ∷ record { at = 2 * row; value = words.w0 } ∷ []
-
--- the one at a place of the list, counted from 0
-unfoldable pub store_at : ℕ → Region → ℕ → Store
-store_at row words place = store_in (fill_stores row words) place
 
 -- a row may be filled with these words
 unfoldable pub fit : Region → Bool
@@ -54,8 +51,3 @@ fill m t row words k =
     image.checked (image.check m) (λ why. refused (Image why) t)
     (λ rows. table.checked (table.check t) (λ why. refused (Table why) t)
     (λ n. fill_row t n row words k))
-
--- what the stores ensure, of the table t before and t' after and of what is reported
-pub record Stores (t : List ℕ) (row : ℕ) (words : Region) (k : ℕ) (t' : List ℕ) (r : Filling) : Type 0 where
-  pub reports : r ≡ report k
-  pub leaves : t' ≡ after_stores k (fill_stores row words) t

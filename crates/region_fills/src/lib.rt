@@ -1,13 +1,14 @@
 // Filling a row of the second lent table: the base is stored first and word 0 last, so that a row is seen whole or not at all.
 #![tactic(auto)]
 
-ghost use Rattle.std.specs.Prelude.{◌≡◌, ◌+◌, ◌*◌, ◌≤◌, ◌<◌, length, set};
+ghost use Rattle.std.specs.Prelude.{◌≡◌, ◌+◌, ◌*◌, ◌^◌, ◌≤◌, length};
 ghost use Rattle.words.specs.Outcomes.{Gives};
 ghost use Rattle.region_fills.specs.declared.FillRefusal.TheVariants.{Image, Table};
-ghost use Rattle.region_fills.specs.Fills.{store_at, fit, fill_row, fill, Stores};
+ghost use Rattle.region_fills.specs.Fills.{fill_stores, fit, fill_row, fill};
 
-use fills::{FillEnd, Filling};
+use fills::Filling;
 use regions::Region;
+use stores::Store;
 
 // Why a fill is refused.
 #[derive(Clone, Copy)]
@@ -42,48 +43,21 @@ fn is_fit(words: Region) -> bool
     regions::well_formed(words) & !(words.w0 == 0)
 }
 
-// The word that the store at a place takes: 1, and 0 last.
-fn word_of(words: Region, place: usize) -> u64
-    requires { place < 2 }
-    ensures { result ≡ (store_at 0 words place).value }
+// The stores of a fill in their order: the base, and last word 0, which makes the row a used one.
+fn fill_stores(row: usize, words: Region) -> [Store; 2]
+    requires { 2 * row + 2 ≤ 2 ^ 64 }
+    ensures { result ≡ fill_stores row words }
 {
-    match place {
-        0 => words.w1,
-        _ => words.w0,
-    }
-}
-
-// Makes the one store at a place, and no other.
-fn step(table: &mut [u64], row: usize, words: Region, place: usize)
-    requires { (2 * row + 2 ≤ length table.old) × (place < 2) }
-    ensures { table.new ≡ set table.old (store_at row words place).at (store_at row words place).value }
-{
-    let at = 2 * row + (place + 1) % 2;
-    table[at] = word_of(words, place);
-}
-
-// Makes the two stores from the first on, while the allowance lasts.
-fn steps(table: &mut [u64], row: usize, words: Region, allowance: u64) -> Filling
-    requires { 2 * row + 2 ≤ length table.old }
-    ensures { Stores table.old row words allowance table.new result }
-{
-    let mut place: usize = 0;
-    let mut stores: u64 = 0;
-    while place < 2 {
-        if stores == allowance {
-            return Filling {
-                end: FillEnd::Cut,
-                stores: stores,
-            };
-        }
-        step(&mut *table, row, words, place);
-        place += 1;
-        stores += 1;
-    }
-    Filling {
-        end: FillEnd::Filled,
-        stores: stores,
-    }
+    [
+        Store {
+            at: 2 * row + 1,
+            value: words.w1,
+        },
+        Store {
+            at: 2 * row,
+            value: words.w0,
+        },
+    ]
 }
 
 // Fills an empty row of a table of n rows with fit words.
@@ -106,7 +80,8 @@ fn fill_row(
     if !is_fit(words) {
         return Err(FillRefusal::Unfit);
     }
-    let done = steps(&mut *table, row, words, allowance);
+    let due = fill_stores(row, words);
+    let done = fills::steps(&mut *table, &due, allowance);
     Ok(done)
 }
 

@@ -7,5 +7,4 @@ pub mod Bits
 pub mod Bytes
 pub mod Search
 pub mod Spans
-pub mod Stores
 pub mod Outcomes

@@ -4,5 +4,4 @@ pub mod Ranges
 pub mod Bytes
 pub mod Search
 pub mod Spans
-pub mod Stores
 pub mod Outcomes

@@ -1,19 +1,10 @@
--- `event_calls::steps` meets its contract. The invariant: the stores so far are the first of the list, one for each place.
+-- `event_calls::steps` meets its contract: it is cut exactly if fewer stores are made than are due.
 -- Assumes nothing.
-use Rattle.words.proofs.Stores.{begins}
-use Rattle.event_calls.proofs.Order.{continues, ends-cut, ends-stored}
+use Rattle.event_calls.proofs.Order.{ends-cut, ends-all}
 use Rattle.event_calls.proofs.steps.Goals as goal
 
-pub loop-place-init : goal.loop-place-init
-loop-place-init c = begins _ _ _
-
-pub returns-then-stores-allowance : goal.returns-then-stores-allowance
-returns-then-stores-allowance c = ends-cut _ _ _ _ c.loop-place.invariant c.loop-place-test.true c.if-stores-allowance.true
-
-pub loop-place-preserved : goal.loop-place-preserved
-loop-place-preserved c =
-    continues _ _ _ _ c.loop-place.invariant
-    c.loop-place-test.true c.if-stores-allowance.false c.step.ensures
+pub returns-then-made-due : goal.returns-then-made-due
+returns-then-made-due c = ends-cut _ _ _ c.make-made.ensures.counted c.make-made.ensures.leaves c.if-made-due.true
 
 pub returns : goal.returns
-returns c = ends-stored _ _ _ _ c.loop-place.invariant c.loop-place-test.false
+returns c = ends-all _ _ _ c.make-made.ensures.counted c.make-made.ensures.leaves c.if-made-due.false

@@ -1,11 +1,12 @@
 -- `event_calls::write` meets its contract: each return is a case of the definition.
 -- Assumes nothing.
 use mathlib.Core.Path.{◌≡◌, sym, ◌∙◌}
+use native.Mathlib.Omega.{arith}
 use Rattle.words.proofs.Outcomes.{gives}
 use borrow.Author.Rules.{rules}
 use Rattle.std.specs.Prelude.{Err, Ok}
 use Rattle.events.specs.Events.{check}
-use Rattle.event_calls.proofs.Cases.{has-index, has-free, write-refused, write-drops, write-stores, meets-done}
+use Rattle.event_calls.proofs.Cases.{has-index, has-free, write-refused, write-drops, write-stores, meets-done, stores_within}
 use Rattle.event_calls.proofs.write.Goals as goal
 
 pub bounds-kept-0 : goal.bounds-kept-0
@@ -23,10 +24,15 @@ returns-then-is_full c =
     let accepted : check c.args.kept.now ≡ Ok c.in_ok-check.field-0 = sym c.check.ensures ∙ c.in_ok-check.was in
     meets-done c.drop_one-dropped.ensures (write-drops _ _ _ _ accepted (sym c.is_full.ensures ∙ c.if-is_full.true))
 
+pub write_stores-due-requires : goal.write_stores-due-requires
+write_stores-due-requires c =
+    let accepted : check c.args.kept.now ≡ Ok c.in_ok-check.field-0 = sym c.check.ensures ∙ c.in_ok-check.was in
+    omega (arith, c.free-slot.ensures, has-free _ _ accepted)
+
 pub steps-written-requires : goal.steps-written-requires
 steps-written-requires c =
     let accepted : check c.args.kept.now ≡ Ok c.in_ok-check.field-0 = sym c.check.ensures ∙ c.in_ok-check.was in
-    rw c.free-slot.ensures (has-free _ _ accepted)
+    rw (c.write_stores-due.ensures, c.free-slot.ensures) (stores_within _ _ c.record_of-event.result c.written-index.result (has-free _ _ accepted))
 
 pub returns-in_err-check : goal.returns-in_err-check
 returns-in_err-check c =
@@ -36,6 +42,6 @@ returns-in_err-check c =
 pub returns : goal.returns
 returns c =
     let accepted : check c.args.kept.now ≡ Ok c.in_ok-check.field-0 = sym c.check.ensures ∙ c.in_ok-check.was in
-    meets-done c.steps-written.ensures
+    meets-done (rw c.write_stores-due.ensures at c.steps-written.ensures)
     (rw (c.free-slot.ensures, c.record_of-event.ensures, c.written-index.ensures)
     (write-stores _ _ _ _ accepted (sym c.is_full.ensures ∙ c.if-is_full.false)))

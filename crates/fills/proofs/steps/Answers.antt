@@ -1,19 +1,10 @@
--- `fills::steps` meets its contract. The invariant: the stores so far are the first of the list, one for each place.
+-- `fills::steps` meets its contract: it is cut exactly if fewer stores are made than are due.
 -- Assumes nothing.
-use Rattle.words.proofs.Stores.{begins}
-use Rattle.fills.proofs.Order.{continues, ends-cut, ends-filled}
+use Rattle.fills.proofs.Order.{reports-cut, reports-filled}
 use Rattle.fills.proofs.steps.Goals as goal
 
-pub loop-place-init : goal.loop-place-init
-loop-place-init c = begins _ _ _
-
-pub returns-then-stores-allowance : goal.returns-then-stores-allowance
-returns-then-stores-allowance c = ends-cut _ _ _ c.loop-place.invariant c.loop-place-test.true c.if-stores-allowance.true
-
-pub loop-place-preserved : goal.loop-place-preserved
-loop-place-preserved c =
-    continues _ _ _ c.loop-place.invariant
-    c.loop-place-test.true c.if-stores-allowance.false c.step.ensures
+pub returns-then-made-due : goal.returns-then-made-due
+returns-then-made-due c = record { reports = reports-cut _ _ _ c.make-made.ensures.counted c.if-made-due.true; leaves = c.make-made.ensures.leaves }
 
 pub returns : goal.returns
-returns c = ends-filled _ _ _ c.loop-place.invariant c.loop-place-test.false
+returns c = record { reports = reports-filled _ _ _ c.make-made.ensures.counted c.if-made-due.false; leaves = c.make-made.ensures.leaves }

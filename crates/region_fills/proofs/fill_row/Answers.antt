@@ -1,8 +1,9 @@
 -- `region_fills::fill_row` meets its contract: each return is a case of the definition.
 -- Assumes nothing.
 use mathlib.Core.Path.{sym, ◌∙◌}
+use native.Mathlib.Omega.{arith}
 use Rattle.words.proofs.Outcomes.{gives}
-use Rattle.region_fills.proofs.Cases.{used, unused, row-none, row-in-use, row-unfit, row_done, as_given, meets-done}
+use Rattle.region_fills.proofs.Cases.{used, unused, row-none, row-in-use, row-unfit, row_done, as_given, meets-done, stores_within}
 use Rattle.region_fills.proofs.fill_row.Goals as goal
 
 pub returns-then-n-row : goal.returns-then-n-row
@@ -17,10 +18,11 @@ returns-then-not-is_fit c =
     (row-unfit _ _ _ _ _ c.if-n-row.false (unused _ _ c.if-table-row-ne0.false)
     (sym c.is_fit.ensures ∙ c.if-not-is_fit.true))
 
+pub steps-done-requires : goal.steps-done-requires
+steps-done-requires c = rw c.fill_stores-due.ensures (stores_within _ _ c.args.words (omega (arith, c.requires, c.if-n-row.false)))
+
 pub returns : goal.returns
 returns c =
-    let test = c in
     as_given
-    (row_done _ _ _ _ _ test.if-n-row.false (unused _ _ test.if-table-row-ne0.false)
-    (sym test.is_fit.ensures ∙ test.if-not-is_fit.false))
-    (meets-done c.steps-done.ensures)
+    (row_done _ _ _ _ _ c.if-n-row.false (unused _ _ c.if-table-row-ne0.false) (sym c.is_fit.ensures ∙ c.if-not-is_fit.false))
+    (meets-done _ _ _ c.fill_stores-due.ensures c.steps-done.ensures.reports c.steps-done.ensures.leaves)

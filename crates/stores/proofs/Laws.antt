@@ -4,12 +4,14 @@
 use mathlib.Core.Path.{◌≡◌, refl, sym, ap, ◌∙◌}
 use mathlib.Core.List.{List, [], ◌∷◌}
 use Prim.Native.Nat.{ℕ, zero, suc, ◌+◌, ◌≤◌, ◌<◌}
+use Rattle.std.specs.Prelude.{min}
 use native.Mathlib.Decide.{ℕ_discrete}
 use native.Mathlib.Numerals.{add-one}
 use native.Mathlib.Omega.{arith}
 use lib.ListN.{length, get_or, set, length-set}
 use lib.Seq.{get_or-set_other, set-set, set_comm}
-use Rattle.words.specs.Stores.{Store, store_in, after_stores}
+use Rattle.stores.specs.declared.Store.{Store}
+use Rattle.stores.specs.Stores.{store_in, after_stores, Within}
 
 -- what holds at each of the four places holds of every place
 pub each-place : (P : ℕ → Type 0) → P 0 → P 1 → P 2 → P 3 → (k : ℕ) → k < 4 → P k
@@ -133,3 +135,16 @@ module _ (m₀ : List ℕ) (ss : List Store) (allowance : ℕ) where
         let whole : place ≡ length ss = omega (arith, now.within) in
         let enough : length ss ≤ allowance = omega (arith, now.counted, now.allowed) in
         (omega (arith, now.counted), enough, now.so_far ∙ ap (λ (k : ℕ). after_stores k ss m₀) whole ∙ sym (after-all allowance ss m₀ enough))
+
+    -- how many are made
+    pub cut-counted : place < length ss → made ≡ allowance → made ≡ min allowance (length ss)
+    cut-counted h e = omega (arith, now.counted)
+
+    pub all-counted : length ss ≤ place → made ≡ min allowance (length ss)
+    all-counted h = omega (arith, now.counted, now.within, now.allowed)
+
+-- where a store of the list goes
+pub goes_within : (n : ℕ) (ss : List Store) (i : ℕ) → Within n ss → i < length ss → (store_in ss i).at < n
+goes_within n [] i w h = absurd (omega arith)
+goes_within n (s ∷ ss) zero w h = w.0
+goes_within n (s ∷ ss) (suc i) w h = goes_within n ss i w.1 (omega arith)

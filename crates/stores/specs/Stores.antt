@@ -1,11 +1,7 @@
 -- Stores to memory, one word at a time.
 -- Assumes nothing.
-use Rattle.std.specs.Prelude.{ℕ, zero, suc, List, [], ◌∷◌, get_or, set}
-
--- a word and its place
-pub record Store : Type 0 where
-  pub at : ℕ
-  pub value : ℕ
+use Rattle.std.specs.Prelude.{ℕ, zero, suc, ◌<◌, List, [], ◌∷◌, get_or, set, ⊤}
+use Rattle.stores.specs.declared.Store.{Store}
 
 -- the one at a place of a list, counted from 0
 abbrev pub store_in : List Store → ℕ → Store
@@ -16,3 +12,8 @@ unfoldable pub after_stores : ℕ → List Store → List ℕ → List ℕ
 after_stores zero ss m = m
 after_stores (suc k) [] m = m
 after_stores (suc k) (s ∷ ss) m = after_stores k ss (set m s.at s.value)
+
+-- each store goes to one of n words
+abbrev pub Within : ℕ → List Store → Type 0
+Within n [] = ⊤
+Within n (s ∷ ss) = (s.at < n) × Within n ss
