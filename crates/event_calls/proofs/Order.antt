@@ -13,7 +13,7 @@ use Rattle.stores.proofs.Laws.{each-place}
 use Rattle.events.specs.declared.Record.{Record}
 use Rattle.event_calls.specs.declared.WriteEnd.{WriteEnd}
 use Rattle.event_calls.specs.declared.WriteEnd.TheVariants.{Cut}
-use Rattle.event_calls.specs.Calls.{write_stores, store_at, report, Stores}
+use Rattle.event_calls.specs.Calls.{store_at, report, Stores}
 
 -- where the store at a place goes, and what it stores whatever the slot is: a word of the record, and last the index word
 module _ (slot : ℕ) (r : Record) (index : ℕ) where

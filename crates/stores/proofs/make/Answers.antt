@@ -1,6 +1,5 @@
 -- `stores::make` meets its contract: as many are made as places passed, until the allowance or the list is at its end.
 -- Assumes nothing.
-use mathlib.Core.Path.{◌≡◌}
 use native.Mathlib.Omega.{arith}
 use Rattle.stores.proofs.Laws.{begins, again, same_size, cut-leaves, all_made, cut-counted, all-counted, goes_within}
 use Rattle.stores.proofs.make.Goals as goal
