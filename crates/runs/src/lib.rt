@@ -3,6 +3,7 @@
 
 mod running;
 
+ghost use Rattle.std.specs.Prelude.{◌≡◌};
 ghost use Rattle.words.specs.Outcomes.{Gives};
 ghost use Rattle.memory.specs.Memory.{both};
 ghost use Rattle.runs.specs.Call.{call};
@@ -41,6 +42,8 @@ pub enum RunRefusal {
 }
 
 impl From<Refusal> for RunRefusal {
+    ghost use Rattle.runs.specs.declared.RunRefusal.{RunRefusal};
+
     ghost from_gives = { λ why e. e ≡ RunRefusal.Image why };
 
     fn from(why: Refusal) -> RunRefusal {
@@ -49,6 +52,8 @@ impl From<Refusal> for RunRefusal {
 }
 
 impl From<regions::Refusal> for RunRefusal {
+    ghost use Rattle.runs.specs.declared.RunRefusal.{RunRefusal};
+
     ghost from_gives = { λ why e. e ≡ RunRefusal.Table why };
 
     fn from(why: regions::Refusal) -> RunRefusal {

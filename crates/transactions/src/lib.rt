@@ -60,6 +60,8 @@ pub enum TransactionRefusal {
 }
 
 impl From<image::Refusal> for TransactionRefusal {
+    ghost use Rattle.transactions.specs.declared.TransactionRefusal.{TransactionRefusal};
+
     ghost from_gives = { λ why e. e ≡ TransactionRefusal.Image why };
 
     fn from(why: image::Refusal) -> TransactionRefusal {

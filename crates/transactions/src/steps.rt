@@ -1,6 +1,8 @@
 // Document 01, A transaction: its five steps.
-ghost use Rattle.std.specs.Prelude.{◌≡◌};
-ghost use Rattle.transactions.specs.Steps.{Movable, Ready, Formed, Typed, uses_stage1, uses_stage2, moved, overridden, stage1, stage2, output, translation};
+ghost use Rattle.std.specs.Prelude.{◌≡◌, Some};
+ghost use Rattle.transactions.specs.Steps.{Movable, Ready, Formed, Typed, uses_stage1, uses_stage2, moved, overridden, stage1, stage2, onward, output, translation};
+ghost use Rattle.lookups.specs.Lookups.{look};
+ghost use Rattle.lookups.specs.declared.Wanted.TheVariants.{Ste};
 
 use crate::{Access, Miss, Outcome, Output, Transaction};
 use lookups::Wanted;
@@ -74,6 +76,15 @@ fn stage2(kept: &[u64], ste: Row, a: Access) -> Result<Access, Miss>
     })
 }
 
+// Steps 2 to 4 on the STE row of the stream: the first row that is not there ends them.
+fn staged(kept: &[u64], t: Transaction, ste: Row) -> Result<Access, Miss>
+    requires { Ready kept.now × Formed t × (look kept.now (Ste t.stream) ≡ Some ste) }
+    ensures { result ≡ onward (stage1 kept.now t ste (overridden ste t)) (stage2 kept.now ste) }
+{
+    let a = stage1(kept, t, ste, overridden(ste, t))?;
+    stage2(kept, ste, a)
+}
+
 fn output(ste: Row, t: Transaction, a: Access) -> Output
     ensures { result ≡ output ste t a }
 {
@@ -98,11 +109,8 @@ pub fn translated(kept: &[u64], t: Transaction) -> Outcome
     if p.config == 0 {
         return Outcome::Abort;
     }
-    match stage1(kept, t, ste, overridden(ste, t)) {
+    match staged(kept, t, ste) {
+        Ok(a) => Outcome::Translated(output(ste, t, a)),
         Err(miss) => Outcome::Missed(miss),
-        Ok(a) => match stage2(kept, ste, a) {
-            Err(miss) => Outcome::Missed(miss),
-            Ok(b) => Outcome::Translated(output(ste, t, b)),
-        },
     }
 }
