@@ -13,15 +13,14 @@ use Rattle.words.proofs.Outcomes.{gives}
 use Rattle.control.specs.Control.{log2size}
 use Rattle.commands.specs.declared.Features.{Features}
 use Rattle.image.specs.declared.Refusal.{Refusal}
-use Rattle.std.specs.Prelude.{Err, Ok, Result}
+use Rattle.std.specs.Prelude.{Err, Ok, Result, ⊤}
 use Rattle.image.specs.Image.{control_of, check}
 use Rattle.image.proofs.Checks.{says}
 use Rattle.writer.specs.declared.Fault.{Fault}
 use Rattle.writer.specs.Layouts.{wide}
 use Rattle.writer.specs.Writing.{slot_size}
-use Rattle.batch_writes.specs.declared.Judged.{Judged}
-use Rattle.batch_writes.specs.declared.Judged.TheVariants.{AllFit, Bad}
-use Rattle.batch_writes.specs.declared.BatchRefusal.TheVariants.{Image, BadQueue, BadCommand, NoRoom}
+use Rattle.batch_writes.specs.declared.BatchRefusal.{BatchRefusal}
+use Rattle.batch_writes.specs.declared.BatchRefusal.TheVariants.{Image, BadQueue, NoRoom}
 use Rattle.batch_writes.specs.Batch.{lent, commands_in, judged_from, free_in, placed, moved_on, write_batch}
 use Rattle.batch_writes.proofs.Judging.{none-short}
 use Rattle.batch_writes.proofs.Placed.{few-slots}
@@ -43,15 +42,15 @@ module _ (f : Features) (ws kept queue : List ℕ) (k : Result ℕ Refusal) (che
       unfolding write_batch
       refuses-queue e = gives (rw (← checked, accepted, ← tested, e))
 
-      module _ (good : not b ≡ false) (n : ℕ) (counted : n ≡ commands_in ws) (j : Judged) (judging : j ≡ judged_from f ws n 0) where
+      module _ (good : not b ≡ false) (n : ℕ) (counted : n ≡ commands_in ws) (j : Result ⊤ BatchRefusal) (judging : j ≡ judged_from f ws n 0) where
         pub long-queue : length queue ≡ slot_size * 2 ^ log2size w
         long-queue = eqb-true (length queue) (slot_size * 2 ^ log2size w) (sym tested ∙ not-false b good)
 
-        pub refuses-command : (i : ℕ) (why : Fault) → j ≡ Bad i why → Gives (write_batch f ws (lent kept queue)) (lent kept queue) (Err (BadCommand i why))
+        pub refuses-command : (why : BatchRefusal) → j ≡ Err why → Gives (write_batch f ws (lent kept queue)) (lent kept queue) (Err why)
         unfolding write_batch
-        refuses-command i why e = gives (rw (← checked, accepted, ← tested, good, ← counted, ← judging, e))
+        refuses-command why e = gives (rw (← checked, accepted, ← tested, good, ← counted, ← judging, e))
 
-        module _ (fine : j ≡ AllFit) (s : ℕ) (room : s ≡ free_in w) where
+        module _ (fine : j ≡ Ok tt) (s : ℕ) (room : s ≡ free_in w) where
           pub refuses-room : s < n → Gives (write_batch f ws (lent kept queue)) (lent kept queue) (Err NoRoom)
           unfolding write_batch
           refuses-room h =

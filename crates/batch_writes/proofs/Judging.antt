@@ -12,13 +12,13 @@ use lib.ListN.{length, take, drop}
 use borrow.Author.Tests.{eq-eqb, ne_eqb, leb-true, le-leb, lt-leb}
 use Rattle.words.specs.Choice.{pick}
 use Rattle.commands.specs.declared.Features.{Features}
-use Rattle.writer.specs.declared.Coded.{Coded}
+use Rattle.commands.specs.declared.Coded.{Coded}
 use Rattle.writer.specs.declared.Fault.{Fault}
 use Rattle.writer.specs.declared.Fault.TheVariants.{Unfit}
 use Rattle.std.specs.Prelude.{Err, Ok, Result}
 use Rattle.writer.specs.Layouts.{wide}
 use Rattle.writer.specs.Writing.{judged}
-use Rattle.batch_writes.specs.declared.Judged.TheVariants.{AllFit, Bad}
+use Rattle.batch_writes.specs.declared.BatchRefusal.TheVariants.{BadCommand}
 use Rattle.batch_writes.specs.Batch.{words_of, commands_in, judged_at, or_later, judged_from}
 
 -- how many there are
@@ -66,7 +66,7 @@ module _ (f : Features) (ws : List ℕ) where
       unfolding judged_from
       more h = let e : n - i ≡ suc (n - (i + 1)) = omega arith in rw (e, add-one i)
 
-      pub finds : (v : Result Coded Fault) (why : Fault) → i < n → v ≡ judged_at f ws i → v ≡ Err why → Bad i why ≡ judged_from f ws n 0
+      pub finds : (v : Result Coded Fault) (why : Fault) → i < n → v ≡ judged_at f ws i → v ≡ Err why → Err (BadCommand i why) ≡ judged_from f ws n 0
       finds v why h e is =
           sym (sym now.so_far ∙ more h ∙ ap (λ (x : Result Coded Fault). or_later i x (judged_from f ws (n - (i + 1)) (i + 1))) (sym e ∙ is))
 
@@ -77,7 +77,7 @@ module _ (f : Features) (ws : List ℕ) where
             so_far = sym (more h ∙ ap (λ (x : Result Coded Fault). or_later i x (judged_from f ws (n - (i + 1)) (i + 1))) (sym e ∙ is)) ∙ now.so_far;
           }
 
-      pub ends : n ≤ i → AllFit ≡ judged_from f ws n 0
+      pub ends : n ≤ i → Ok tt ≡ judged_from f ws n 0
       unfolding judged_from
       ends h = let z : n - i ≡ 0 = omega arith in rw z at now.so_far
 
@@ -96,22 +96,22 @@ module _ (f : Features) (ws : List ℕ) where
       by_test false p q = let z : ◌≡◌ {A = ℕ} 0 1 = cc in absurd (omega arith)
 
   -- none of the n from i on is bad: each fits
-  from-fit : (n i : ℕ) → judged_from f ws n i ≡ AllFit → (k : ℕ) → k < n → FitAt (i + k)
+  from-fit : (n i : ℕ) → judged_from f ws n i ≡ Ok tt → (k : ℕ) → k < n → FitAt (i + k)
   unfolding judged_from
   from-fit zero i e k h = absurd (omega arith)
   from-fit (suc n) i e k h = verdict_case (judged_at f ws i) refl e k h (from-fit n (suc i))
     where
-      verdict_case : (v : Result Coded Fault) → judged_at f ws i ≡ v → or_later i v (judged_from f ws n (suc i)) ≡ AllFit → (k : ℕ) → k < suc n
-          → (judged_from f ws n (suc i) ≡ AllFit → (j : ℕ) → j < n → FitAt (suc i + j)) → FitAt (i + k)
+      verdict_case : (v : Result Coded Fault) → judged_at f ws i ≡ v → or_later i v (judged_from f ws n (suc i)) ≡ Ok tt → (k : ℕ) → k < suc n
+          → (judged_from f ws n (suc i) ≡ Ok tt → (j : ℕ) → j < n → FitAt (suc i + j)) → FitAt (i + k)
       verdict_case (Err why) p q k l later = let z : ◌≡◌ {A = ℕ} 0 1 = cc in absurd (omega arith)
       verdict_case (Ok c) p q zero l later = rw add-zero (fit_at i c p)
       verdict_case (Ok c) p q (suc j) l later = rw (add-suc, ← suc-add) (later q j (omega arith))
 
-  pub each_fits : (n : ℕ) → judged_from f ws n 0 ≡ AllFit → (i : ℕ) → i < n → FitAt i
+  pub each_fits : (n : ℕ) → judged_from f ws n 0 ≡ Ok tt → (i : ℕ) → i < n → FitAt i
   each_fits n e i h = rw zero-add at (from-fit n 0 e i h)
 
   -- so every command is whole
-  pub none-short : judged_from f ws (commands_in ws) 0 ≡ AllFit → wide * commands_in ws ≤ length ws
+  pub none-short : judged_from f ws (commands_in ws) 0 ≡ Ok tt → wide * commands_in ws ≤ length ws
   none-short e = by_count (commands_in ws) refl
     where
       by_count : (n : ℕ) → commands_in ws ≡ n → wide * n ≤ length ws

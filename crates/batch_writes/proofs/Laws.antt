@@ -31,14 +31,12 @@ use Rattle.image.specs.declared.Refusal.{Refusal}
 use Rattle.image.specs.Image.{control_of, check}
 use Rattle.image.proofs.Checks.{Accepts, says}
 use Rattle.image.proofs.AfterStores.{control-stored}
-use Rattle.writer.specs.declared.Coded.{Coded}
+use Rattle.commands.specs.declared.Coded.{Coded}
 use Rattle.writer.specs.Writing.{encoded, split, slot_size, with_command}
 use Rattle.writer.proofs.RoundTrip.{low_lt, high_lt}
 use Rattle.writer.proofs.Slots.{command-others, decodes-there, decodes-elsewhere}
-use Rattle.batch_writes.specs.declared.Judged.{Judged}
-use Rattle.batch_writes.specs.declared.Judged.TheVariants.{AllFit, Bad}
 use Rattle.batch_writes.specs.declared.BatchRefusal.{BatchRefusal}
-use Rattle.batch_writes.specs.declared.BatchRefusal.TheVariants.{Image, BadQueue, BadCommand, NoRoom}
+use Rattle.batch_writes.specs.declared.BatchRefusal.TheVariants.{Image, BadQueue, NoRoom}
 use Rattle.batch_writes.specs.Batch.{Lent, lent, words_of, commands_in, judged_from, free_in, slot_at, placed, moved_on, refused, write_batch}
 use Rattle.batch_writes.proofs.Placed.{slot_inside, placed-length}
 
@@ -138,7 +136,7 @@ pub record Rings (f : Features) (ws : List ℕ) (m : Lent) : Type 0 where
   pub rows : ℕ
   pub accepted : Accepts m.kept rows
   pub long : length m.queue ≡ slot_size * indexes.slots (control.log2size (control_of m.kept))
-  pub all_fit : judged_from f ws (commands_in ws) 0 ≡ AllFit
+  pub all_fit : judged_from f ws (commands_in ws) 0 ≡ Ok tt
   pub room : commands_in ws ≤ free_in (control_of m.kept)
   pub leaves : write_batch f ws m ≡ with (Ok tt) (lent (set m.kept 0 (moved_on (control_of m.kept) (commands_in ws))) (placed ws (control_of m.kept) m.queue (commands_in ws)))
 
@@ -155,7 +153,7 @@ module _ (f : Features) (ws : List ℕ) (m : Lent) where
   way = by_check (check m.kept) refl
     where
       by_room : (rows : ℕ) → check m.kept ≡ Ok rows → eqb (length m.queue) (slot_size * indexes.slots (control.log2size x)) ≡ true
-          → judged_from f ws (commands_in ws) 0 ≡ AllFit → (b : Bool) → ltb (free_in x) (commands_in ws) ≡ b → Way f ws m
+          → judged_from f ws (commands_in ws) 0 ≡ Ok tt → (b : Bool) → ltb (free_in x) (commands_in ws) ≡ b → Way f ws m
       by_room rows e q j true b = stops NoRoom (rw (e, q, j, b))
       by_room rows e q j false b =
           rings
@@ -169,9 +167,9 @@ module _ (f : Features) (ws : List ℕ) (m : Lent) where
           })
 
       by_commands : (rows : ℕ) → check m.kept ≡ Ok rows → eqb (length m.queue) (slot_size * indexes.slots (control.log2size x)) ≡ true
-          → (j : Judged) → judged_from f ws (commands_in ws) 0 ≡ j → Way f ws m
-      by_commands rows e q (Bad i why) j = stops (BadCommand i why) (rw (e, q, j))
-      by_commands rows e q AllFit j = by_room rows e q j (ltb (free_in x) (commands_in ws)) refl
+          → (j : Result ⊤ BatchRefusal) → judged_from f ws (commands_in ws) 0 ≡ j → Way f ws m
+      by_commands rows e q (Err why) j = stops why (rw (e, q, j))
+      by_commands rows e q (Ok fine) j = by_room rows e q j (ltb (free_in x) (commands_in ws)) refl
 
       by_queue : (rows : ℕ) → check m.kept ≡ Ok rows → (b : Bool) → eqb (length m.queue) (slot_size * indexes.slots (control.log2size x)) ≡ b → Way f ws m
       by_queue rows e false q = stops BadQueue (rw (e, q))

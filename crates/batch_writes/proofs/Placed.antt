@@ -13,7 +13,7 @@ use Rattle.indexes.proofs.Laws as indexed
 use Rattle.control.specs.Control as control
 use Rattle.control.specs.Control.{wr_bits, log2size_bits, rd, wr, log2size}
 use Rattle.control_stores.specs.Stores.{rung}
-use Rattle.writer.specs.declared.Coded.{Coded}
+use Rattle.commands.specs.declared.Coded.{Coded}
 use Rattle.writer.specs.Layouts.{wide}
 use Rattle.writer.specs.Writing.{encoded, split, slot_size, with_command}
 use Rattle.writer.proofs.Slots.{command-length}

@@ -10,12 +10,10 @@ use Rattle.control_stores.specs.Stores.{rung}
 use Rattle.commands.specs.declared.Features.{Features}
 use Rattle.image.specs.Image as image
 use Rattle.writer.specs.declared.Fault.TheVariants.{Unfit}
-use Rattle.writer.specs.declared.Coded.{Coded}
+use Rattle.commands.specs.declared.Coded.{Coded}
 use Rattle.writer.specs.declared.Fault.{Fault}
 use Rattle.writer.specs.Layouts.{wide}
 use Rattle.writer.specs.Writing.{encoded, split, judged, fault_number, slot_size, with_command}
-use Rattle.batch_writes.specs.declared.Judged.{Judged}
-use Rattle.batch_writes.specs.declared.Judged.TheVariants.{AllFit, Bad}
 use Rattle.batch_writes.specs.declared.BatchRefusal.{BatchRefusal}
 use Rattle.batch_writes.specs.declared.BatchRefusal.TheVariants.{Image, BadQueue, BadCommand, NoRoom}
 
@@ -39,12 +37,12 @@ unfoldable pub judged_at : Features → List ℕ → ℕ → Result Coded Fault
 judged_at f ws i = pick (leb (wide * i + wide) (length ws)) (judged f (words_of ws i)) (Err Unfit)
 
 -- the first bad one of the n commands from i on
-abbrev pub or_later : ℕ → Result Coded Fault → Judged → Judged
-or_later i (Err why) later = Bad i why
+abbrev pub or_later : ℕ → Result Coded Fault → Result ⊤ BatchRefusal → Result ⊤ BatchRefusal
+or_later i (Err why) later = Err (BadCommand i why)
 or_later i (Ok c) later = later
 
-unfoldable pub judged_from : Features → List ℕ → ℕ → ℕ → Judged
-judged_from f ws zero i = AllFit
+unfoldable pub judged_from : Features → List ℕ → ℕ → ℕ → Result ⊤ BatchRefusal
+judged_from f ws zero i = Ok tt
 judged_from f ws (suc n) i = or_later i (judged_at f ws i) (judged_from f ws n (suc i))
 
 -- how many slots are free
@@ -73,9 +71,9 @@ number NoRoom = 22
 abbrev pub refused : BatchRefusal → Lent → Outcome Lent (Result ⊤ BatchRefusal)
 refused why m = with (Err why) m
 
-abbrev pub by_judged : Judged → Lent → Outcome Lent (Result ⊤ BatchRefusal) → Outcome Lent (Result ⊤ BatchRefusal)
-by_judged (Bad i why) m next = refused (BadCommand i why) m
-by_judged AllFit m next = next
+abbrev pub by_judged : Result ⊤ BatchRefusal → Lent → Outcome Lent (Result ⊤ BatchRefusal) → Outcome Lent (Result ⊤ BatchRefusal)
+by_judged (Err why) m next = refused why m
+by_judged (Ok fine) m next = next
 
 unfoldable pub write_batch : Features → List ℕ → Lent → Outcome Lent (Result ⊤ BatchRefusal)
 write_batch f ws m =

@@ -8,16 +8,9 @@ ghost use Rattle.words.specs.Outcomes.{Gives};
 ghost use Rattle.writer.specs.Layouts.{wide};
 ghost use Rattle.batch_writes.specs.Batch.{lent, commands_in, judged_at, judged_from, free_in, moved_on, write_batch};
 
-use commands::Features;
+use commands::{Coded, Features};
 use image::Refusal;
-use writer::{Coded, Fault};
-
-// The first bad command, or none.
-#[derive(Clone, Copy)]
-pub enum Judged {
-    AllFit,
-    Bad(usize, Fault),
-}
+use writer::Fault;
 
 // Why a batch is refused: the image, the queue's length, a command, or too few free slots.
 #[derive(Clone, Copy)]
@@ -29,6 +22,8 @@ pub enum BatchRefusal {
 }
 
 impl From<Refusal> for BatchRefusal {
+    ghost use Rattle.batch_writes.specs.declared.BatchRefusal.{BatchRefusal};
+
     ghost from_gives = { λ why e. e ≡ BatchRefusal.Image why };
 
     fn from(why: Refusal) -> BatchRefusal {
@@ -59,18 +54,17 @@ fn judge_at(f: Features, commands: &[u64], i: usize) -> Result<Coded, Fault>
     writer::judge(f, &commands[at..end])
 }
 
-fn first_bad(f: Features, commands: &[u64], n: usize) -> Judged
+// Refuses the first bad command.
+fn first_bad(f: Features, commands: &[u64], n: usize) -> Result<(), BatchRefusal>
     requires { n ≡ commands_in commands.now }
     ensures { result ≡ judged_from f commands.now n 0 }
 {
-    let mut i = 0;
-    while i < n {
+    for i in 0..n {
         if let Err(why) = judge_at(f, commands, i) {
-            return Judged::Bad(i, why);
+            return Err(BatchRefusal::BadCommand(i, why));
         }
-        i += 1;
     }
-    Judged::AllFit
+    Ok(())
 }
 
 fn free_in(w: u64) -> u64
@@ -95,7 +89,12 @@ fn ring(kept: &mut [u64], w: u64, n: u64)
 }
 
 // Writes the commands into the slots from WR on, and moves WR on.
-pub fn write_batch(kept: &mut [u64], queue: &mut [u8], commands: &[u64], f: Features) -> Result<(), BatchRefusal>
+pub fn write_batch(
+    kept: &mut [u64],
+    queue: &mut [u8],
+    commands: &[u64],
+    f: Features,
+) -> Result<(), BatchRefusal>
     ensures { Gives (write_batch f commands.now (lent kept.old queue.old)) (lent kept.new queue.new) result }
 {
     image::check(&*kept)?;
@@ -104,9 +103,7 @@ pub fn write_batch(kept: &mut [u64], queue: &mut [u8], commands: &[u64], f: Feat
         return Err(BatchRefusal::BadQueue);
     }
     let n = commands_in(commands);
-    if let Judged::Bad(i, why) = first_bad(f, commands, n) {
-        return Err(BatchRefusal::BadCommand(i, why));
-    }
+    first_bad(f, commands, n)?;
     if free_in(w) < n as u64 {
         return Err(BatchRefusal::NoRoom);
     }

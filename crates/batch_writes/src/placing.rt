@@ -29,9 +29,7 @@ pub fn place(queue: &mut [u8], commands: &[u64], w: u64, n: usize)
     requires { (length queue.old ≡ slot_size * 2 ^ log2size w) × (wide * n ≤ length commands.now) × (n < 2 ^ 32) }
     ensures { queue.new ≡ placed commands.now w queue.old n }
 {
-    let mut i = 0;
-    while i < n {
+    for i in 0..n {
         place_one(&mut *queue, commands, w, i);
-        i += 1;
     }
 }

@@ -40,24 +40,6 @@ pub fn rows_for(c: Command, rows: usize, more: usize) -> usize
     rows
 }
 
-fn lesser(a: usize, b: usize) -> usize
-    ensures { result ≡ min a b }
-{
-    if a < b {
-        return a;
-    }
-    b
-}
-
-fn greater(a: usize, b: usize) -> usize
-    ensures { result ≡ max a b }
-{
-    if a < b {
-        return b;
-    }
-    a
-}
-
 // Of a 73: the lowest row from `from` on and below `to`, those of the second table being counted from `rows` on. Where its region
 // begins and how long it is, is worked out once.
 fn find_region(
@@ -74,15 +56,9 @@ fn find_region(
 {
     let first = regions::address_of(page);
     let bytes = regions::length_of(size);
-    let mut i = from;
-    while i < to {
-        let row = regions::row_at(table, i - rows);
-        if regions::in_region_of(row, first, bytes, page, size, leaf) {
-            return Some(i);
-        }
-        i += 1;
-    }
-    None
+    words::lowest_in(from, to, |i| {
+        regions::in_region_of(regions::row_at(table, i - rows), first, bytes, page, size, leaf)
+    })
 }
 
 // Of a command about the second table: no row before it is looked at.
@@ -98,17 +74,11 @@ fn find_second(
     ensures { result ≡ lowest (scoped_at f c (both kept.now table.now)) (to - from) from }
 {
     let rows = kept.len() / 4;
-    let mut i = greater(from, lesser(rows, to));
+    let start = from.max(rows.min(to));
     if let Command::DptiPa(page, size, leaf) = c {
-        return find_region(table, rows, page, size, leaf, i, to);
+        return find_region(table, rows, page, size, leaf, start, to);
     }
-    while i < to {
-        if region_scopes::in_table(c, regions::row_at(table, i - rows)) {
-            return Some(i);
-        }
-        i += 1;
-    }
-    None
+    words::lowest_in(start, to, |i| region_scopes::in_table(c, regions::row_at(table, i - rows)))
 }
 
 // Of any other: only rows that its screen lets through are asked, and none of the second table.
@@ -117,7 +87,7 @@ fn find_first(kept: &[u64], table: &[u64], f: Features, c: Command, from: usize,
     ensures { result ≡ lowest (scoped_at f c (both kept.now table.now)) (to - from) from }
 {
     let s = scope_screens::screen_of(f, c);
-    let end = lesser(kept.len() / 4, to);
+    let end = (kept.len() / 4).min(to);
     let mut i = from;
     while i < end {
         let Some(row) = screens::next(kept, s, i, end) else {

@@ -69,12 +69,10 @@ pub fn same(a: [u64; 16], d: &[u64]) -> bool
     requires { wide ≤ length d.now }
     ensures { result ≡ all wide (λ k. eqb (get_or a k 0) (get_or d.now k 0)) }
 {
-    let mut i = 0;
-    while i < 16 {
-        if a[i] != d[i] {
+    for k in 0..crate::WIDE {
+        if a[k] != d[k] {
             return false;
         }
-        i += 1;
     }
     true
 }
