@@ -18,8 +18,8 @@ use Rattle.memory.proofs.Laws.{Accepts, accepts-both, accepted-whole}
 use Rattle.batches.specs.declared.Batch.TheVariants.{Original, Proposed}
 use Rattle.batches.specs.declared.CheckRefusal.{CheckRefusal}
 use Rattle.batches.specs.declared.CheckRefusal.TheVariants.{Image, Table, BadBatch}
-use Rattle.batches.specs.declared.CheckAnswer.{CheckAnswer}
-use Rattle.batches.specs.declared.CheckAnswer.TheVariants.{Refused, Same, Unfit, Differ}
+use Rattle.batches.specs.declared.Comparison.{Comparison}
+use Rattle.batches.specs.declared.Comparison.TheVariants.{Same, Unfit, Differ}
 use Rattle.batches.specs.Batches.{is_whole, unfit, by_row, judged, check}
 use Rattle.batches.specs.Blocks.{apart}
 use Rattle.batches.proofs.CarriedOut.{lowest-differs}
@@ -48,12 +48,12 @@ module _ (f : Features) (original proposed : List ℕ) (m : Memory) (whole : Who
 
 -- x and y are what the checks of the two tables said, a and b what those of the batches' lengths said
 module _ (f : Features) (original proposed : List ℕ) (m : Memory) {x : (Result ℕ Refusal)} (first : x ≡ image.check m.kept) where
-  pub refuses-image : {why : Refusal} → x ≡ Err why → Refused (Image why) ≡ check f original proposed m
+  pub refuses-image : {why : Refusal} → x ≡ Err why → Err (Image why) ≡ check f original proposed m
   unfolding check
   refuses-image e = rw (sym first ∙ e)
 
   module _ {n : ℕ} (e : x ≡ Ok n) {y : (Result ℕ regions·Refusal)} (second : y ≡ regions.check m.table) where
-    pub refuses-table : {why : regions·Refusal} → y ≡ Err why → Refused (Table why) ≡ check f original proposed m
+    pub refuses-table : {why : regions·Refusal} → y ≡ Err why → Err (Table why) ≡ check f original proposed m
     unfolding check
     refuses-table g = rw (sym first ∙ e, sym second ∙ g)
 
@@ -63,24 +63,24 @@ module _ (f : Features) (original proposed : List ℕ) (m : Memory) {x : (Result
           accepted-whole m _ (accepts-both m n r ((says m.kept).accepted n (sym first ∙ e)) ((regions·says m.table).accepted r (sym second ∙ g)))
 
       module _ {a b : Bool} (is-a : a ≡ is_whole original) (is_b : b ≡ is_whole proposed) where
-        pub refuses-batch : not (a && b) ≡ true → Refused BadBatch ≡ check f original proposed m
+        pub refuses-batch : not (a && b) ≡ true → Err BadBatch ≡ check f original proposed m
         unfolding check
         refuses-batch q = rw (sym first ∙ e, sym second ∙ g, ← is-a, ← is_b, q)
 
-        pub continues : {answer : CheckAnswer} → not (a && b) ≡ false → answer ≡ judged f original proposed m → answer ≡ check f original proposed m
+        pub continues : {answer : Comparison} → not (a && b) ≡ false → answer ≡ judged f original proposed m → Ok answer ≡ check f original proposed m
         unfolding check
-        continues q h = rw (sym first ∙ e, sym second ∙ g, ← is-a, ← is_b, q) h
+        continues q h = rw (sym first ∙ e, sym second ∙ g, ← is-a, ← is_b, q) (ap Ok h)
 
 -- of accepted memory only the lengths of the batches are left to ask about
 pub goes_through : (f : Features) (original proposed : List ℕ) (m : Memory) (n : ℕ) → Accepts m n → is_whole original ≡ true → is_whole proposed ≡ true
-    → check f original proposed m ≡ judged f original proposed m
+    → check f original proposed m ≡ Ok (judged f original proposed m)
 unfolding check
 goes_through f original proposed m n a p q =
     rw (accepts m.kept a.first a.image, regions·accepts m.table a.second a.regions, p, q)
 
 -- memory and batches that they do not accept are refused
 pub data Answered (f : Features) (original proposed : List ℕ) (m : Memory) : Type 0 where
-  no : (why : CheckRefusal) → check f original proposed m ≡ Refused why → Answered f original proposed m
+  no : (why : CheckRefusal) → check f original proposed m ≡ Err why → Answered f original proposed m
   yes : (n : ℕ) → Accepts m n → is_whole original ≡ true → is_whole proposed ≡ true → Answered f original proposed m
 
 pub answered : (f : Features) (original proposed : List ℕ) (m : Memory) → Answered f original proposed m

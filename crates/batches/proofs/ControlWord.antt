@@ -31,8 +31,8 @@ use Rattle.memory.specs.Memory.{Memory, control_of, rows_in, stored, Whole, Same
 use Rattle.memory.proofs.Laws.{accepts-both, accepted-whole, scoped_stored, stored-whole, rows-stored, only_control}
 use Rattle.batches.specs.declared.Batch.TheVariants.{Original, Proposed}
 use Rattle.batches.specs.declared.CheckRefusal.TheVariants.{Image, Table, BadBatch}
-use Rattle.batches.specs.declared.CheckAnswer.{CheckAnswer}
-use Rattle.batches.specs.declared.CheckAnswer.TheVariants.{Refused}
+use Rattle.batches.specs.declared.CheckRefusal.{CheckRefusal}
+use Rattle.batches.specs.declared.Comparison.{Comparison}
 use Rattle.batches.specs.Batches.{is_whole, size, unfit, left, differs, unfit_or, by_row, judged, check}
 use Rattle.batches.specs.Blocks.{takes, taken_by, one, apart}
 use Rattle.batches.proofs.CarriedOut.{lowest-differs}
@@ -90,18 +90,18 @@ module _ (f : Features) (m : Memory) (w : ℕ) where
     unfolding check
     same-stored = rw (same-image m.kept w some formed formed') (by_image (image.check m.kept) refl)
       where
-        rest : CheckAnswer → CheckAnswer
-        rest = pick (not (is_whole original && is_whole proposed)) (Refused BadBatch)
+        rest : Comparison → Result Comparison CheckRefusal
+        rest answer = pick (not (is_whole original && is_whole proposed)) (Err BadBatch) (Ok answer)
 
         by_table : (n : ℕ) → image.check m.kept ≡ Ok n → (y : Result ℕ TableRefusal) → regions.check m.table ≡ y
-            → regions.checked y (λ why. Refused (Table why)) (λ r. rest (judged f original proposed (stored m w))) ≡ regions.checked y (λ why. Refused (Table why)) (λ r. rest (judged f original proposed m))
+            → regions.checked y (λ why. Err (Table why)) (λ r. rest (judged f original proposed (stored m w))) ≡ regions.checked y (λ why. Err (Table why)) (λ r. rest (judged f original proposed m))
         by_table n e (Err why) g = refl
         by_table n e (Ok r) g =
             ap rest (same-judged original proposed (accepted-whole m (n + r) (accepts-both m n r ((says m.kept).accepted n e) ((regions·says m.table).accepted r g))))
 
         by_image : (x : Result ℕ Refusal) → image.check m.kept ≡ x
-            → image.checked x (λ why. Refused (Image why)) (λ n. regions.checked (regions.check m.table) (λ why. Refused (Table why)) (λ r. rest (judged f original proposed (stored m w))))
-            ≡ image.checked x (λ why. Refused (Image why)) (λ n. regions.checked (regions.check m.table) (λ why. Refused (Table why)) (λ r. rest (judged f original proposed m)))
+            → image.checked x (λ why. Err (Image why)) (λ n. regions.checked (regions.check m.table) (λ why. Err (Table why)) (λ r. rest (judged f original proposed (stored m w))))
+            ≡ image.checked x (λ why. Err (Image why)) (λ n. regions.checked (regions.check m.table) (λ why. Err (Table why)) (λ r. rest (judged f original proposed m)))
         by_image (Err why) e = refl
         by_image (Ok n) e = by_table n e (regions.check m.table) refl
 

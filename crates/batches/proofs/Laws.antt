@@ -12,7 +12,7 @@ use lib.Dec.{eqb}
 use borrow.Author.Tests.{eq-eqb, eqb-true, not-false}
 use Rattle.words.specs.Choice.{pick}
 use Rattle.words.specs.Search.{lowest}
-use Rattle.std.specs.Prelude.{None, Option, Some}
+use Rattle.std.specs.Prelude.{None, Ok, Option, Some}
 use Rattle.words.proofs.Search.{from_zero, none, is_none}
 use Rattle.words.proofs.Truth.{clash, either, or_left, or_right}
 use Rattle.commands.specs.declared.Features.{Features}
@@ -21,7 +21,7 @@ use Rattle.image.specs.Image as image
 use Rattle.regions.specs.Table as regions
 use Rattle.memory.specs.Memory.{Memory, rows_in, is_kept, behind, word0}
 use Rattle.memory.proofs.Laws.{Accepts, accepted-whole, rows_are, same-words, same_memory}
-use Rattle.batches.specs.declared.CheckAnswer.TheVariants.{Same}
+use Rattle.batches.specs.declared.Comparison.TheVariants.{Same}
 use Rattle.batches.specs.declared.Batch.TheVariants.{Original, Proposed}
 use Rattle.batches.specs.Batches.{size, qualifies, unfit, left, same_row, same_region, differs, unfit_or, by_row, judged, check}
 use Rattle.batches.specs.Blocks.{takes, taken_by, taken, apart}
@@ -109,7 +109,7 @@ module _ (f : Features) (batch : List ℕ) where
       (eq-or-lt_of_le (le_of_suc-le-suc h))
 
 -- memory that is accepted, of so many rows
-pub record Some (m : Memory) : Type 0 where
+pub record SomeRows (m : Memory) : Type 0 where
   pub rows : ℕ
   pub accepted : Accepts m rows
 
@@ -121,7 +121,7 @@ module _ (f : Features) (original proposed : List ℕ) (m : Memory) where
   by_found None None (Some i) e = let q : ◌≡◌ {A = ℕ} 0 1 = cc in absurd (omega arith)
   by_found None None None e = (refl, refl, refl)
 
-  pub yes-says : check f original proposed m ≡ Same → Agree f original proposed m
+  pub yes-says : check f original proposed m ≡ Ok Same → Agree f original proposed m
   unfolding judged
   yes-says e = by_answer (answered f original proposed m)
     where
@@ -129,7 +129,8 @@ module _ (f : Features) (original proposed : List ℕ) (m : Memory) where
       by_answer (no why r) = let q : ◌≡◌ {A = ℕ} 0 1 = cc in absurd (omega arith)
       by_answer (yes n a p q) =
           let d = differs (left f original m) (left f proposed m) in
-          let t = by_found (unfit f original) (unfit f proposed) (lowest d (rows_in m) 0) (sym (goes_through f original proposed m n a p q) ∙ e) in
+          let same : judged f original proposed m ≡ Same = cc (goes_through f original proposed m n a p q) in
+          let t = by_found (unfit f original) (unfit f proposed) (lowest d (rows_in m) 0) same in
           record {
             original_fits = record { whole = p; each = all_fit f original t.0 };
             proposed_fits = record { whole = q; each = all_fit f proposed t.1 };
@@ -137,7 +138,7 @@ module _ (f : Features) (original proposed : List ℕ) (m : Memory) where
                 (λ i h. none d (rows_in m) 0 (omega arith) (sym (from_zero d (rows_in m)) ∙ t.2) i (omega arith) (rw (rows_are m n a) h));
           }
 
-  pub says-yes : (n : ℕ) → Accepts m n → Agree f original proposed m → check f original proposed m ≡ Same
+  pub says-yes : (n : ℕ) → Accepts m n → Agree f original proposed m → check f original proposed m ≡ Ok Same
   unfolding judged
   says-yes n a s =
       let d = differs (left f original m) (left f proposed m) in
@@ -147,9 +148,9 @@ module _ (f : Features) (original proposed : List ℕ) (m : Memory) where
       ∙ rw (none-unfit f original s.original_fits.each, none-unfit f proposed s.proposed_fits.each, rows)
 
   -- a yes is about accepted memory
-  pub yes-accepted : check f original proposed m ≡ Same → Some m
+  pub yes-accepted : check f original proposed m ≡ Ok Same → SomeRows m
   yes-accepted e = by_answer (answered f original proposed m)
     where
-      by_answer : Answered f original proposed m → Some m
+      by_answer : Answered f original proposed m → SomeRows m
       by_answer (no why r) = let q : ◌≡◌ {A = ℕ} 0 1 = cc in absurd (omega arith)
       by_answer (yes n a p q) = record { rows = n; accepted = a }

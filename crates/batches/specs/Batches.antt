@@ -1,7 +1,7 @@
 -- Document 02, T-12: whether a proposed batch of invalidations leaves the rows that the original does; refusals 1, 2, 3, then 13 and 14,
 -- then 23.
 -- Assumes nothing.
-use Rattle.std.specs.Prelude.{Bool, false, not, ◌&&◌, List, ℕ, zero, suc, ◌/◌, ◌%◌, eqb, length, None, Option, Some}
+use Rattle.std.specs.Prelude.{Bool, false, not, ◌&&◌, List, ℕ, zero, suc, ◌/◌, ◌%◌, None, Option, Some, Err, Ok, Result, eqb, length}
 use Rattle.words.specs.Choice.{pick}
 use Rattle.words.specs.Search.{lowest}
 use Rattle.rows.specs.declared.Row.{Row}
@@ -19,8 +19,8 @@ use Rattle.batches.specs.declared.Batch.{Batch}
 use Rattle.batches.specs.declared.Batch.TheVariants.{Original, Proposed}
 use Rattle.batches.specs.declared.CheckRefusal.{CheckRefusal}
 use Rattle.batches.specs.declared.CheckRefusal.TheVariants.{Image, Table, BadBatch}
-use Rattle.batches.specs.declared.CheckAnswer.{CheckAnswer}
-use Rattle.batches.specs.declared.CheckAnswer.TheVariants.{Refused, Same, Unfit, Differ}
+use Rattle.batches.specs.declared.Comparison.{Comparison}
+use Rattle.batches.specs.declared.Comparison.TheVariants.{Same, Unfit, Differ}
 
 -- a batch is 16 bytes for each command; it may be empty
 abbrev pub is_whole : List ℕ → Bool
@@ -74,15 +74,15 @@ differs a b i =
     (same_region (regions.row_at a.table (behind a i)) (regions.row_at b.table (behind a i))))
 
 -- the first command that does not qualify, the original batch searched first; else the lowest row that differs; else yes
-abbrev pub unfit_or : Batch → Option ℕ → CheckAnswer → CheckAnswer
+abbrev pub unfit_or : Batch → Option ℕ → Comparison → Comparison
 unfit_or batch (Some k) next = Unfit batch k
 unfit_or batch None next = next
 
-abbrev pub by_row : Option ℕ → CheckAnswer
+abbrev pub by_row : Option ℕ → Comparison
 by_row (Some i) = Differ i
 by_row None = Same
 
-unfoldable pub judged : Features → List ℕ → List ℕ → Memory → CheckAnswer
+unfoldable pub judged : Features → List ℕ → List ℕ → Memory → Comparison
 judged f original proposed m =
     unfit_or Original (unfit f original)
     (unfit_or Proposed (unfit f proposed)
@@ -94,9 +94,9 @@ number (Image why) = image.number why
 number (Table why) = regions.number why
 number BadBatch = 23
 
-unfoldable pub check : Features → List ℕ → List ℕ → Memory → CheckAnswer
+unfoldable pub check : Features → List ℕ → List ℕ → Memory → Result Comparison CheckRefusal
 check f original proposed m =
-    image.checked (image.check m.kept) (λ why. Refused (Image why))
-    (λ n. regions.checked (regions.check m.table) (λ why. Refused (Table why))
-    (λ r. pick (not (is_whole original && is_whole proposed)) (Refused BadBatch)
-    (judged f original proposed m)))
+    image.checked (image.check m.kept) (λ why. Err (Image why))
+    (λ n. regions.checked (regions.check m.table) (λ why. Err (Table why))
+    (λ r. pick (not (is_whole original && is_whole proposed)) (Err BadBatch)
+    (Ok (judged f original proposed m))))

@@ -13,13 +13,7 @@ const BLOCK: usize = 256;
 fn rows_in(rows: usize, base: usize) -> usize
     ensures { result ≡ in_block rows base }
 {
-    if rows <= base {
-        return 0;
-    }
-    if rows - base < BLOCK {
-        return rows - base;
-    }
-    BLOCK
+    rows.saturating_sub(base).min(BLOCK)
 }
 
 // Marks the rows of the block, below `rows`, that a command has in scope.
@@ -36,6 +30,7 @@ fn mark_rows(
     ensures { AddsBelow rows base (scoped_at f c (both kept.now table.now)) marks.old marks.new }
 {
     let end = base + rows_in(rows, base);
+    // No `for`: each search goes on behind the row that the last one found.
     let mut i = base;
     while i < end {
         let Some(row) = due::find_in(kept, table, f, c, i, end) else {
@@ -79,11 +74,9 @@ fn mark_batch(
     ensures { Marks (both kept.now table.now) base (taken f batch.now (both kept.now table.now)) marks.new }
 {
     let n = batch.len() / 16;
-    let mut k = 0;
-    while k < n {
+    for k in 0..n {
         let d = commands::decode_at(f, batch, k);
         mark_command(kept, table, f, d, base, &mut *marks);
-        k += 1;
     }
 }
 
@@ -92,16 +85,7 @@ fn first_apart(a: &[bool], b: &[bool], base: usize, n: usize) -> Option<usize>
     requires { (n ≤ length a.now) × (n ≤ length b.now) × (base + n < 2 ^ 64) }
     ensures { result ≡ lowest (λ i. one (mark a.now (i - base)) (mark b.now (i - base))) n base }
 {
-    let end = base + n;
-    let mut i = base;
-    while i < end {
-        let j = i - base;
-        if a[j] ^ b[j] {
-            return Some(i);
-        }
-        i += 1;
-    }
-    None
+    words::lowest_in(base, base + n, |i| a[i - base] ^ b[i - base])
 }
 
 fn compare_block(

@@ -14,16 +14,13 @@ fn qualifies(d: Decoded) -> bool
 }
 
 // The first command of a batch that doesn't qualify.
+#[tactic(auto, unfolding(crate::specs::Batches::unfit))]
 pub fn first_unfit(f: Features, batch: &[u8]) -> Option<usize>
     ensures { result ≡ unfit f batch.now }
 {
-    let n = batch.len() / 16;
-    let mut k = 0;
-    while k < n {
-        if !qualifies(commands::decode_at(f, batch, k)) {
-            return Some(k);
-        }
-        k += 1;
-    }
-    None
+    words::lowest_in(
+        0,
+        batch.len() / 16,
+        |k| !qualifies(commands::decode_at(f, batch, k)),
+    )
 }

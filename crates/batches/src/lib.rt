@@ -36,6 +36,8 @@ pub enum Comparison {
 }
 
 impl From<Refusal> for CheckRefusal {
+    ghost use Rattle.batches.specs.declared.CheckRefusal.{CheckRefusal};
+
     ghost from_gives = { λ why e. e ≡ CheckRefusal.Image why };
 
     fn from(why: Refusal) -> CheckRefusal {
@@ -44,6 +46,8 @@ impl From<Refusal> for CheckRefusal {
 }
 
 impl From<regions::Refusal> for CheckRefusal {
+    ghost use Rattle.batches.specs.declared.CheckRefusal.{CheckRefusal};
+
     ghost from_gives = { λ why e. e ≡ CheckRefusal.Table why };
 
     fn from(why: regions::Refusal) -> CheckRefusal {

@@ -17,12 +17,13 @@ use Rattle.commands.specs.declared.Decoded.TheVariants.{Legal, Illegal}
 use Rattle.commands.specs.Decoding.{decode_at, is_illegal}
 use Rattle.memory.specs.Memory.{Memory, control_of, word0, used_rows, scoped_at, stored, SameRows}
 use Rattle.memory.proofs.Laws as memory
+use Rattle.std.specs.Prelude.{Ok}
 use Rattle.memory.proofs.Laws.{Accepts}
 use Rattle.runs.specs.declared.End.TheVariants.{Empty, Cut}
 use Rattle.runs.specs.Running.{run}
 use Rattle.runs.specs.Call.{done, call}
 use Rattle.runs.proofs.Calling.{goes_through}
-use Rattle.batches.specs.declared.CheckAnswer.TheVariants.{Same}
+use Rattle.batches.specs.declared.Comparison.TheVariants.{Same}
 use Rattle.batches.specs.Batches.{is_whole, size, qualifies, carried_out, left, check}
 use Rattle.batches.specs.Blocks.{takes, taken}
 use Rattle.batches.specs.Yes.{Invalidations, Agree, Within}
@@ -37,25 +38,25 @@ use Rattle.promises.proofs.Legal.{runs-empty}
 
 module _ (f : Features) (m : Memory) where
   -- what a yes says, and that it is said wherever that holds
-  pub yes-only-if : (original proposed : List ℕ) → check f original proposed m ≡ Same → Agree f original proposed m
+  pub yes-only-if : (original proposed : List ℕ) → check f original proposed m ≡ Ok Same → Agree f original proposed m
   yes-only-if original proposed e = laws.yes-says f original proposed m e
 
-  pub yes-if : (n : ℕ) → Accepts m n → (original proposed : List ℕ) → Agree f original proposed m → check f original proposed m ≡ Same
+  pub yes-if : (n : ℕ) → Accepts m n → (original proposed : List ℕ) → Agree f original proposed m → check f original proposed m ≡ Ok Same
   yes-if n a original proposed s = laws.says-yes f original proposed m n a s
 
   -- a batch beside itself
-  pub unchanged : (n : ℕ) → Accepts m n → (batch : List ℕ) → Invalidations f batch → check f batch batch m ≡ Same
+  pub unchanged : (n : ℕ) → Accepts m n → (batch : List ℕ) → Invalidations f batch → check f batch batch m ≡ Ok Same
   unchanged n a batch fits = yes-if n a batch batch (record { original_fits = fits; proposed_fits = fits; same = refl })
 
   -- whoever made the proposal, and whichever of the two is called so
-  pub turned : (a b : List ℕ) → check f a b m ≡ Same → check f b a m ≡ Same
+  pub turned : (a b : List ℕ) → check f a b m ≡ Ok Same → check f b a m ≡ Ok Same
   turned a b e =
       let s = yes-only-if a b e in
       let r = laws.yes-accepted f a b m e in
       yes-if r.rows r.accepted b a (record { original_fits = s.proposed_fits; proposed_fits = s.original_fits; same = sym s.same })
 
   -- step by step is as good as at once
-  pub chained : (a b c : List ℕ) → check f a b m ≡ Same → check f b c m ≡ Same → check f a c m ≡ Same
+  pub chained : (a b c : List ℕ) → check f a b m ≡ Ok Same → check f b c m ≡ Ok Same → check f a c m ≡ Ok Same
   chained a b c e g =
       let s = yes-only-if a b e in
       let t = yes-only-if b c g in
@@ -69,7 +70,7 @@ module _ (f : Features) (m : Memory) where
       let p = w t.which t.below in
       laws.is-taken f b (size b) m i p.place p.below (ap (λ (d : Decoded). takes f d m i) p.same ∙ t.within_scope)
 
-  pub any_order : (n : ℕ) → Accepts m n → (a b : List ℕ) → Invalidations f a → is_whole b ≡ true → Within f a b → Within f b a → check f a b m ≡ Same
+  pub any_order : (n : ℕ) → Accepts m n → (a b : List ℕ) → Invalidations f a → is_whole b ≡ true → Within f a b → Within f b a → check f a b m ≡ Ok Same
   any_order n accepted a b fits whole there back =
       yes-if n accepted a b
       (record {
@@ -184,7 +185,7 @@ module _ (f : Features) (batch queue : List ℕ) (n k w : ℕ) (m : Memory) (acc
       (record { ran = (run f queue k (stored m w)).ran; is_done = refl; ends_empty = run-leaves.0 }, run-leaves.1)
 
 -- after a yes, a run over either batch comes to its end, and the two leave one set of rows
-module _ (f : Features) (m : Memory) (original proposed : List ℕ) (said : check f original proposed m ≡ Same) where
+module _ (f : Features) (m : Memory) (original proposed : List ℕ) (said : check f original proposed m ≡ Ok Same) where
   pub runs_agree : (n : ℕ) → Accepts m n → (queue₁ queue₂ : List ℕ) (w₁ w₂ k₁ k₂ : ℕ) → Waits f original queue₁ w₁ → Waits f proposed queue₂ w₂
       → used_rows m n + size original ≤ k₁ → used_rows m n + size proposed ≤ k₂
       → EndsEmpty (call f queue₁ k₁ (stored m w₁)).answer × EndsEmpty (call f queue₂ k₂ (stored m w₂)).answer

@@ -3,7 +3,7 @@
 use mathlib.Core.Path.{◌≡◌, refl, ap, ◌∙◌}
 use mathlib.Core.Bool.{Bool, true, false, not, ◌&&◌}
 use mathlib.Core.List.{List, [], ◌++◌}
-use Prim.Native.Nat.{ℕ, ◌*◌, ◌^◌}
+use Prim.Native.Nat.{ℕ, zero, suc, ◌*◌, ◌^◌}
 use lib.Dec.{eqb, leb, ltb}
 use lib.ListN.{length, get_or, set}
 use Rattle.words.specs.Choice.{pick}
@@ -44,10 +44,10 @@ use Rattle.regions.specs.declared.Refusal.TheVariants.{BadLength as regions·Bad
 use Rattle.regions.specs.Table as regions
 use Rattle.regions.proofs.Checks.{rows_case as regions·by-rows, says as regions·says, rows_are as regions·rows-are}
 use Rattle.region_fills.specs.Fills as region-fills
+use Rattle.writer.specs.declared.Fault.{Fault}
 use Rattle.writer.specs.declared.Fault.TheVariants.{Missing, Unfit}
+use Rattle.commands.specs.declared.Coded.{Coded}
 use Rattle.writer.specs.Writing as writer
-use Rattle.batch_writes.specs.declared.Judged.{Judged}
-use Rattle.batch_writes.specs.declared.Judged.TheVariants.{AllFit, Bad}
 use Rattle.batch_writes.specs.declared.BatchRefusal.TheVariants.{NoRoom}
 use Rattle.batch_writes.specs.Batch as batch
 use Rattle.batch_writes.specs.Batch.{Lent}
@@ -115,23 +115,12 @@ run-number f queue k m =
 
 -- document 02, T-12; what is judged is no refusal
 module _ (f : Features) (original proposed : List ℕ) (m : Memory) where
-  judged-none : check_number (batches.judged f original proposed m) ≡ 0
-  unfolding batches.judged
-  judged-none = by_found (batches.unfit f original) (batches.unfit f proposed) (lowest (batches.differs (batches.left f original m) (batches.left f proposed m)) (rows_in m) 0)
-    where
-      by_found : (x y z : Option ℕ) → check_number (batches.unfit_or Original x (batches.unfit_or Proposed y (batches.by_row z))) ≡ 0
-      by_found (Some k) y z = refl
-      by_found None (Some k) z = refl
-      by_found None None (Some i) = refl
-      by_found None None None = refl
-
   pub check-number : check_number (batches.check f original proposed m) ≡ first (of_image m.kept ++ of_table m.table ++ of_check original proposed)
   unfolding batches.check
   check-number =
       image-first m.kept check_number _ _ (of_table m.table ++ of_check original proposed) (λ why. refl)
       (λ n e. table-first m.table check_number _ _ (of_check original proposed) (λ why. refl)
-      (λ r g. through check_number (not (batches.is_whole original && batches.is_whole proposed)) _ _
-      ∙ ap (pick (not (batches.is_whole original && batches.is_whole proposed)) 23) judged-none))
+      (λ r g. through check_number (not (batches.is_whole original && batches.is_whole proposed)) _ _))
 
 pub number_of_table_fill : (m t : List ℕ) (row : ℕ) (words : Region) (k : ℕ)
     → table_fill_number (region-fills.fill m t row words k).answer ≡ first (of_image m ++ of_table t ++ of_table_fill t row words)
@@ -219,7 +208,7 @@ unfolding batch.write_batch
 number_of_batch f ws m =
     image-first m.kept number _ _ (of_batch f ws m) (λ why. refl)
     (λ rows e. through number (not (eqb (length m.queue) (writer.slot_size * 2 ^ control.log2size w))) _ _
-    ∙ ap (pick (not (eqb (length m.queue) (writer.slot_size * 2 ^ control.log2size w))) 4) (by-judged (batch.judged_from f ws n 0)))
+    ∙ ap (pick (not (eqb (length m.queue) (writer.slot_size * 2 ^ control.log2size w))) 4) (judged n 0))
   where
     number : Outcome Lent (Result ⊤ BatchRefusal) → ℕ
     number = of_answer batch_number
@@ -234,8 +223,18 @@ number_of_batch f ws m =
     by_room true = refl
     by_room false = refl
 
-    by-judged : (j : Judged) → number (batch.by_judged j m (pick (ltb (batch.free_in w) n) (batch.refused NoRoom m) (with (Ok tt) (batch.lent (set m.kept 0 (batch.moved_on w n)) (batch.placed ws w m.queue n)))))
+    Numbered : Result ⊤ BatchRefusal → Type 0
+    Numbered j =
+        number (batch.by_judged j m (pick (ltb (batch.free_in w) n) (batch.refused NoRoom m) (with (Ok tt) (batch.lent (set m.kept 0 (batch.moved_on w n)) (batch.placed ws w m.queue n)))))
         ≡ pick (first_lacks j) 20 (pick (first_unfit j) 21 (pick (ltb (batch.free_in w) n) 22 0))
-    by-judged AllFit = by_room (ltb (batch.free_in w) n)
-    by-judged (Bad i Missing) = refl
-    by-judged (Bad i Unfit) = refl
+
+    -- what is judged is a command's fault, or none
+    or_later : (i : ℕ) (v : Result Coded Fault) (later : Result ⊤ BatchRefusal) → Numbered later → Numbered (batch.or_later i v later)
+    or_later i (Err Missing) later h = refl
+    or_later i (Err Unfit) later h = refl
+    or_later i (Ok c) later h = h
+
+    judged : (k i : ℕ) → Numbered (batch.judged_from f ws k i)
+    unfolding batch.judged_from
+    judged zero i = by_room (ltb (batch.free_in w) n)
+    judged (suc k) i = or_later i (batch.judged_at f ws i) (batch.judged_from f ws k (suc i)) (judged k (suc i))

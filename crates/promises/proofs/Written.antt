@@ -26,7 +26,7 @@ use Rattle.memory.proofs.Laws.{Accepts}
 use Rattle.runs.specs.Running.{run}
 use Rattle.runs.specs.Call.{call}
 use Rattle.runs.proofs.Calling.{goes_through}
-use Rattle.writer.specs.declared.Coded.{Coded}
+use Rattle.commands.specs.declared.Coded.{Coded}
 use Rattle.writer.specs.Layouts.{wide}
 use Rattle.writer.specs.Writing.{slot_size}
 use Rattle.writer.proofs.RoundTrip.{reads_back, coded_as}

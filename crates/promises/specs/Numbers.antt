@@ -16,6 +16,7 @@ use Rattle.transactions.specs.declared.TransactionRefusal.{TransactionRefusal}
 use Rattle.region_fills.specs.declared.FillRefusal.{FillRefusal as RegionFillsFillRefusal}
 use Rattle.writer.specs.declared.WriteRefusal.{WriteRefusal}
 use Rattle.batch_writes.specs.declared.BatchRefusal.{BatchRefusal}
+use Rattle.batch_writes.specs.declared.BatchRefusal.TheVariants.{Image, BadQueue, BadCommand, NoRoom}
 use Rattle.attributes.specs.Formats as attributes
 use Rattle.rows.specs.declared.Row.{Row}
 use Rattle.control.specs.Control as control
@@ -37,14 +38,13 @@ use Rattle.regions.specs.declared.Region.{Region}
 use Rattle.regions.specs.Table as regions
 use Rattle.region_fills.specs.Fills as region-fills
 use Rattle.commands.specs.declared.Features.{Features}
+use Rattle.writer.specs.declared.Fault.{Fault}
 use Rattle.writer.specs.declared.Fault.TheVariants.{Missing, Unfit}
 use Rattle.writer.specs.Writing as writer
-use Rattle.batch_writes.specs.declared.Judged.{Judged}
-use Rattle.batch_writes.specs.declared.Judged.TheVariants.{AllFit, Bad}
 use Rattle.batch_writes.specs.Batch as batch
 use Rattle.batch_writes.specs.Batch.{Lent}
-use Rattle.batches.specs.declared.CheckAnswer.{CheckAnswer}
-use Rattle.batches.specs.declared.CheckAnswer.TheVariants.{Refused as NotChecked, Same, Unfit as NotFit, Differ}
+use Rattle.batches.specs.declared.Comparison.{Comparison}
+use Rattle.batches.specs.declared.CheckRefusal.{CheckRefusal}
 use Rattle.batches.specs.Batches as batches
 
 -- the number of an answer: its refusal's, or 0 where the call was carried out
@@ -60,11 +60,9 @@ abbrev pub table_fill_number : Result Filling RegionFillsFillRefusal → ℕ
 table_fill_number (Err why) = region-fills.number why
 table_fill_number (Ok filling) = 0
 
-abbrev pub check_number : CheckAnswer → ℕ
-check_number (NotChecked why) = batches.number why
-check_number Same = 0
-check_number (NotFit batch command) = 0
-check_number (Differ row) = 0
+abbrev pub check_number : Result Comparison CheckRefusal → ℕ
+check_number (Err why) = batches.number why
+check_number (Ok answer) = 0
 
 abbrev pub doorbell_number : Result ⊤ DoorbellRefusal → ℕ
 doorbell_number (Err why) = control-calls.doorbell_number why
@@ -173,15 +171,23 @@ abbrev pub batch_number : Result ⊤ BatchRefusal → ℕ
 batch_number (Err why) = batch.number why
 batch_number (Ok tt) = 0
 
-abbrev pub first_lacks : Judged → Bool
-first_lacks AllFit = false
-first_lacks (Bad i Missing) = true
-first_lacks (Bad i Unfit) = false
+-- of the commands in their order the first bad one lacks a feature; or it is unfit
+abbrev pub tells_of : (Fault → Bool) → Result ⊤ BatchRefusal → Bool
+tells_of p (Ok fine) = false
+tells_of p (Err (Image why)) = false
+tells_of p (Err BadQueue) = false
+tells_of p (Err (BadCommand i why)) = p why
+tells_of p (Err NoRoom) = false
 
-abbrev pub first_unfit : Judged → Bool
-first_unfit AllFit = false
-first_unfit (Bad i Missing) = false
-first_unfit (Bad i Unfit) = true
+abbrev pub is_missing : Fault → Bool
+is_missing Missing = true
+is_missing Unfit = false
+
+abbrev pub first_lacks : Result ⊤ BatchRefusal → Bool
+first_lacks = tells_of is_missing
+
+abbrev pub first_unfit : Result ⊤ BatchRefusal → Bool
+first_unfit = tells_of (λ why. not (is_missing why))
 
 abbrev pub of_batch : Features → List ℕ → Lent → List Rule
 of_batch f ws m =
