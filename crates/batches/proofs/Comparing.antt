@@ -19,21 +19,6 @@ use Rattle.batches.specs.Blocks.{taken, one, apart, block_rows, in_block, mark, 
 abbrev pub by_marks : List Bool → List Bool → ℕ → ℕ → Bool
 by_marks a b base i = one (mark a (i - base)) (mark b (i - base))
 
--- a search of the n numbers from base on, under way
-pub record From (p : ℕ → Bool) (base n i : ℕ) : Type 0 where
-  pub low : base ≤ i
-  pub rest : Searching p (base + n) (lowest p n base) i
-
-pub from-base : (p : ℕ → Bool) (base n : ℕ) → From p base n base
-from-base p base n =
-    record {
-      low = omega arith;
-      rest = record { within = omega arith; same = ap (λ (k : ℕ). lowest p k base) (let e : n ≡ base + n - base = omega arith in e) };
-    }
-
-pub passes-one : {p : ℕ → Bool} {base n i : ℕ} → From p base n i → i < base + n → p i ≡ false → From p base n (i + 1)
-passes-one s h e = record { low = omega (arith, s.low); rest = passes s.rest h e }
-
 -- no row is marked at first
 pub unmarked : (m : Memory) (base : ℕ) → Marks m base (λ i. false) (replicate block_rows false)
 unmarked m base = record { at = λ j h l. get_or-replicate block_rows j false false h }

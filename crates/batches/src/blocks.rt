@@ -119,6 +119,7 @@ pub fn lowest_apart(
     ensures { result ≡ lowest (apart f original.now proposed.now (both kept.now table.now)) (rows_in (both kept.now table.now)) 0 }
 {
     let rows = kept.len() / 4 + table.len() / 2;
+    // No `for`: a count of blocks would stand beside the row that each begins with.
     let mut base = 0;
     while base < rows {
         let n = rows_in(rows, base);

@@ -18,9 +18,6 @@ fn qualifies(d: Decoded) -> bool
 pub fn first_unfit(f: Features, batch: &[u8]) -> Option<usize>
     ensures { result ≡ unfit f batch.now }
 {
-    words::lowest_in(
-        0,
-        batch.len() / 16,
-        |k| !qualifies(commands::decode_at(f, batch, k)),
-    )
+    let n = batch.len() / 16;
+    words::lowest_in(0, n, |k| !qualifies(commands::decode_at(f, batch, k)))
 }

@@ -42,11 +42,6 @@ pub of_region : (c : Command) (page size : ℕ) (leaf : Bool) → c ≡ DptiPa p
 unfolding in_table
 of_region c page size leaf e table rows n i = rw e refl
 
--- a search of it that began at row `start`, under way at row i
-pub record Behind (p : ℕ → Bool) (rows to start i : ℕ) : Type 0 where
-  pub going : Searching p to (lowest p (to - start) start) i
-  pub past : min rows to ≤ i
-
 module _ (f : Features) (c : Command) (m : Memory) (from to : ℕ) where
   -- Document 02, T-11: a command about the second table has no row of the first in scope
   pub from_second : (i : ℕ) → is_regional c ≡ true → from ≤ to → i ≡ max from (min (kept_rows m) to)
