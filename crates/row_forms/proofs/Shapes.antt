@@ -1,6 +1,6 @@
 -- The masks and the rules of a shape say of each row of that shape whether it has only named parts and is good.
 -- Assumes nothing.
-use mathlib.Core.Path.{◌≡◌, refl, ap, ◌∙◌}
+use mathlib.Core.Path.{◌≡◌, refl, sym, ap, ◌∙◌}
 use mathlib.Core.Bool.{Bool, true, false, not, ◌&&◌, ◌||◌}
 use mathlib.Core.Logic.{⊎_elim}
 use Prim.Native.Nat.{ℕ, ◌+◌, ◌*◌, ◌/◌, ◌%◌, ◌^◌, ◌<◌}
@@ -11,6 +11,8 @@ use lib.ListN.{get_or}
 use borrow.Author.Tests.{eqb-true, eqb-false}
 use Rattle.words.specs.Choice.{pick}
 use Rattle.words.specs.Parts.{part}
+use Rattle.words.specs.Ranges.{bits}
+use Rattle.words.proofs.Parts.{part_lt}
 use Rattle.words.proofs.Truth.{decided}
 use Rattle.attributes.specs.Formats as attributes
 use Rattle.rows.specs.declared.Row.{Row}
@@ -18,7 +20,7 @@ use Rattle.rows.specs.Rows.{ste, cd, stage1, kind, is_last, span, attributes_of}
 use Rattle.row_forms.specs.WellFormed.{shape, only_named, ste_good, placed, begins, mark_good, stage_good_by, stage_good, good, good_by}
 use Rattle.row_forms.proofs.Masks.{masks, tests}
 use Rattle.row_forms.proofs.Halves.{unmarked-good}
-use Rattle.row_forms.proofs.Marks.{stage1-alone-marked}
+use Rattle.row_forms.proofs.Marks.{shape-kind, stage1-alone-marked}
 
 pub record Words (row : Row) : Type 0 where
   pub w0 : row.w0 < 2 ^ 64
@@ -80,6 +82,23 @@ module _ (row : Row) where
       (by_tests (only_named row) (ste_good row) (stage (kind row) (is_last row) row) (mark_good row) (eqb (kind row) ste) (eqb (kind row) cd) (eqb (kind row) stage1)
       (λ k o. unmarked-good row (stage1-alone-marked row o k)))
 
+  module _ (s : ℕ) (e : shape row ≡ s) where
+    kind-is : kind row ≡ s % 4
+    kind-is = sym (shape-kind row) ∙ ap (λ (x : ℕ). x % 4) e
+
+    pub last-is : is_last row ≡ eqb (s / 4) 1
+    unfolding part
+    last-is = let same : row.w0 / 2 ^ 3 % 2 ^ 1 ≡ s / 4 = omega (arith, e) in ap (λ (x : ℕ). eqb x 1) same
+
+    only-named : Words row → masked s row ≡ only_named row
+    unfolding only_named
+    only-named f =
+        let small : s < 8 = omega (arith, part_lt (bits 3 1) row.w0) in
+        rw (e, tests (4 * s) row.w0 (omega arith) f.w0, tests (4 * s + 1) row.w1 (omega arith) f.w1, tests (4 * s + 2) row.w2 (omega arith) f.w2, tests (4 * s + 3) row.w3 (omega arith) f.w3)
+
+    pub by_shape : Words row → tested (masked s row) (s % 4) (eqb (s / 4) 1) row ≡ (only_named row && good row)
+    by_shape f = rw (only-named f, ← kind-is, ← last-is) by_kind
+
   -- the shape of a kind, not last-level and last-level
   module _ (s : ℕ) (small : s < 8) (k : s % 4 ≡ kind row) (l : eqb (s / 4) 1 ≡ is_last row) where
     shape-is : shape row ≡ s
@@ -94,10 +113,5 @@ module _ (row : Row) where
         omega (arith, k, up, high))
         (decided (is_last row))
 
-    only-named : Words row → masked s row ≡ only_named row
-    unfolding only_named
-    only-named f =
-        rw (shape-is, tests (4 * s) row.w0 (omega arith) f.w0, tests (4 * s + 1) row.w1 (omega arith) f.w1, tests (4 * s + 2) row.w2 (omega arith) f.w2, tests (4 * s + 3) row.w3 (omega arith) f.w3)
-
-    pub by_shape : Words row → tested (masked s row) (s % 4) (eqb (s / 4) 1) row ≡ (only_named row && good row)
-    by_shape f = rw (only-named f, k, l) by_kind
+    pub by_kind_and_level : Words row → tested (masked s row) (s % 4) (eqb (s / 4) 1) row ≡ (only_named row && good row)
+    by_kind_and_level f = by_shape s shape-is f
