@@ -9,7 +9,7 @@ pub use word::{
     standing_of, well_formed, wr_of,
 };
 
-// Why a run does nothing more.
+// Why a run does nothing more: three of the ends that document 01 names.
 #[derive(Clone, Copy)]
 pub enum Rest {
     Off,

@@ -8,6 +8,7 @@ use indexes::Queue;
 // The largest LOG2SIZE.
 pub const MAX_LOG2: u64 = 12;
 
+// A name and a clause for each part: what reads it is one function, at the part's place.
 pub fn rd_of(w: u64) -> u64
     ensures { result ≡ rd w }
 {

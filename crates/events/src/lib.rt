@@ -43,7 +43,7 @@ pub fn record_of(bytes: &[u8; 32]) -> Record
     }
 }
 
-// The record in slot i.
+// The record in slot i, by its words' places: the C interface lends one slice of words.
 #[tactic(auto, unfolding(crate::specs::Events::record_at))]
 pub fn record_at(kept: &[u64], i: usize) -> Record
     requires { 4 * i + 5 ≤ length kept.now }

@@ -5,6 +5,8 @@ ghost use Rattle.events.specs.Stores.{written, read_out, flipped, acknowledged};
 use crate::places;
 use crate::word::{overflow_of, queue_of};
 
+// As in control_stores, each store is one line over its word's places: a function for both words would be longer.
+
 #[tactic(auto, unfolding(crate::specs::Stores::written))]
 pub fn written(w: u64) -> u64
     ensures { result ≡ written w }

@@ -5,6 +5,7 @@ ghost use Rattle.events.specs.Word.{rd, wr, overflow, overflow_ack, log2size, ou
 use crate::places;
 use indexes::Queue;
 
+// A name and a clause for each part: what reads it is one function, at the part's place.
 pub fn rd_of(w: u64) -> u64
     ensures { result ≡ rd w }
 {

@@ -4,6 +4,8 @@
 ghost use Rattle.std.specs.Prelude.{◌≡◌, ◌<◌, nat_eq};
 ghost use Rattle.indexes.specs.Indexes.{slots, in_range, distance, slot, next, well_formed};
 
+// These rules stand by their numbers, since they are public and docs/PROMISES.md names them; a `Queue` has them as methods.
+
 // How many commands wait. The difference wraps at 2^64, of which a turn is a divisor.
 pub fn distance(n: u64, rd: u64, wr: u64) -> u64
     requires { n < 63 }

@@ -15,7 +15,7 @@ pub fn power(n: u64) -> u64
     1 << n
 }
 
-// The number in the bits h down to l of w.
+// The number in the bits h down to l of w: for bits that are computed, and what a `BitField` reads by.
 pub fn part(w: u64, h: u64, l: u64) -> u64
     requires { (l ≤ h) × (h < 64) × (h < l + 63) }
     ensures { result ≡ part h l w }
@@ -76,7 +76,8 @@ pub fn overlap(a: u64, n: u64, b: u64, k: u64) -> bool
     a - b < k
 }
 
-// The word of the eight bytes from `at` on.
+// The word of the eight bytes from `at` on. Eight reads: box/volatile.py could not tell the copy of `copy_from_slice` from one to
+// lent memory.
 pub fn word_at(bytes: &[u8], at: usize) -> u64
     requires { at + 8 ≤ length bytes.now }
     ensures { result ≡ word_at bytes.now at }
