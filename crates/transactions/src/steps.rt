@@ -8,6 +8,8 @@ use crate::{Access, Miss, Outcome, Output, Transaction};
 use lookups::Wanted;
 use rows::Row;
 
+// Config by its number, as the definition has it: each question is one line. An enum would have to read the ill-formed 1 to 3 as one of
+// its cases, and takes a type and a function more to say the same.
 fn uses_stage1(config: u64) -> bool
     ensures { result ≡ uses_stage1 config }
 {
