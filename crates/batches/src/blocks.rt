@@ -2,10 +2,12 @@
 // room where there are more rows.
 ghost use Rattle.std.specs.Prelude.{◌≡◌, false, ◌+◌, ◌-◌, ◌^◌, ◌≤◌, ◌<◌, length};
 ghost use Rattle.words.specs.Search.{lowest};
-ghost use Rattle.memory.specs.Memory.{both, rows_in, scoped_at, Whole};
+ghost use Rattle.memory.specs.Lending.{lent};
+ghost use Rattle.memory.specs.Memory.{rows_in, scoped_at};
 ghost use Rattle.batches.specs.Blocks.{taken, one, apart, block_rows, in_block, mark, Marks, AddsBelow, Adds};
 
 use commands::{Command, Decoded, Features};
+use memory::Tables;
 
 const BLOCK: usize = 256;
 
@@ -17,23 +19,15 @@ fn rows_in(rows: usize, base: usize) -> usize
 }
 
 // Marks the rows of the block, below `rows`, that a command has in scope.
-fn mark_rows(
-    kept: &[u64],
-    table: &[u64],
-    f: Features,
-    c: Command,
-    base: usize,
-    rows: usize,
-    marks: &mut [bool],
-)
-    requires { Whole (both kept.now table.now) × (rows ≤ rows_in (both kept.now table.now)) × (length marks.old ≡ block_rows) }
-    ensures { AddsBelow rows base (scoped_at f c (both kept.now table.now)) marks.old marks.new }
+fn mark_rows(m: Tables, f: Features, c: Command, base: usize, rows: usize, marks: &mut [bool])
+    requires { (rows ≤ rows_in (lent m)) × (length marks.old ≡ block_rows) }
+    ensures { AddsBelow rows base (scoped_at f c (lent m.entry)) marks.old marks.new }
 {
     let end = base + rows_in(rows, base);
     // No `for`: each search goes on behind the row that the last one found.
     let mut i = base;
     while i < end {
-        let Some(row) = due::find_in(kept, table, f, c, i, end) else {
+        let Some(row) = due::find_in(m, f, c, i, end) else {
             return;
         };
         marks[row - base] = true;
@@ -42,41 +36,27 @@ fn mark_rows(
 }
 
 // Those of any command: an idle one has none, and only one about the second table has rows there.
-fn mark_command(
-    kept: &[u64],
-    table: &[u64],
-    f: Features,
-    d: Decoded,
-    base: usize,
-    marks: &mut [bool],
-)
-    requires { Whole (both kept.now table.now) × (length marks.old ≡ block_rows) }
-    ensures { Adds f d (both kept.now table.now) base marks.old marks.new }
+fn mark_command(m: Tables, f: Features, d: Decoded, base: usize, marks: &mut [bool])
+    requires { length marks.old ≡ block_rows }
+    ensures { Adds f d (lent m.entry) base marks.old marks.new }
 {
     if let Decoded::Legal(c) = d {
         if !scopes::idle(f, c) {
-            let rows = due::rows_for(c, kept.len() / 4, table.len() / 2);
-            mark_rows(kept, table, f, c, base, rows, &mut *marks);
+            let rows = due::rows_for(c, m.kept.len() / 4, m.table.len() / 2);
+            mark_rows(m, f, c, base, rows, &mut *marks);
         }
     }
 }
 
 // Those of a whole batch.
-fn mark_batch(
-    kept: &[u64],
-    table: &[u64],
-    f: Features,
-    batch: &[u8],
-    base: usize,
-    marks: &mut [bool],
-)
-    requires { Whole (both kept.now table.now) × (length marks.old ≡ block_rows) × Marks (both kept.now table.now) base (λ i. false) marks.old }
-    ensures { Marks (both kept.now table.now) base (taken f batch.now (both kept.now table.now)) marks.new }
+fn mark_batch(m: Tables, f: Features, batch: &[u8], base: usize, marks: &mut [bool])
+    requires { (length marks.old ≡ block_rows) × Marks (lent m) base (λ i. false) marks.old }
+    ensures { Marks (lent m.entry) base (taken f batch.now (lent m.entry)) marks.new }
 {
     let n = batch.len() / 16;
     for k in 0..n {
         let d = commands::decode_at(f, batch, k);
-        mark_command(kept, table, f, d, base, &mut *marks);
+        mark_command(m, f, d, base, &mut *marks);
     }
 }
 
@@ -89,41 +69,33 @@ fn first_apart(a: &[bool], b: &[bool], base: usize, n: usize) -> Option<usize>
 }
 
 fn compare_block(
-    kept: &[u64],
-    table: &[u64],
+    m: Tables,
     f: Features,
     original: &[u8],
     proposed: &[u8],
     base: usize,
     n: usize,
 ) -> Option<usize>
-    requires { Whole (both kept.now table.now) × (n ≤ block_rows) × (base + n ≤ rows_in (both kept.now table.now)) }
-    ensures { result ≡ lowest (apart f original.now proposed.now (both kept.now table.now)) n base }
+    requires { (n ≤ block_rows) × (base + n ≤ rows_in (lent m)) }
+    ensures { result ≡ lowest (apart f original.now proposed.now (lent m.entry)) n base }
 {
     let mut a = [false; BLOCK];
-    mark_batch(kept, table, f, original, base, &mut a);
+    mark_batch(m, f, original, base, &mut a);
     let mut b = [false; BLOCK];
-    mark_batch(kept, table, f, proposed, base, &mut b);
+    mark_batch(m, f, proposed, base, &mut b);
     first_apart(&a, &b, base, n)
 }
 
 // The lowest row that one of two batches alone removes.
-pub fn lowest_apart(
-    kept: &[u64],
-    table: &[u64],
-    f: Features,
-    original: &[u8],
-    proposed: &[u8],
-) -> Option<usize>
-    requires { Whole (both kept.now table.now) }
-    ensures { result ≡ lowest (apart f original.now proposed.now (both kept.now table.now)) (rows_in (both kept.now table.now)) 0 }
+pub fn lowest_apart(m: Tables, f: Features, original: &[u8], proposed: &[u8]) -> Option<usize>
+    ensures { result ≡ lowest (apart f original.now proposed.now (lent m.entry)) (rows_in (lent m.entry)) 0 }
 {
-    let rows = kept.len() / 4 + table.len() / 2;
+    let rows = m.kept.len() / 4 + m.table.len() / 2;
     // No `for`: a count of blocks would stand beside the row that each begins with.
     let mut base = 0;
     while base < rows {
         let n = rows_in(rows, base);
-        let found = compare_block(kept, table, f, original, proposed, base, n);
+        let found = compare_block(m, f, original, proposed, base, n);
         if let Some(row) = found {
             return Some(row);
         }

@@ -6,11 +6,13 @@ mod blocks;
 mod commands_of;
 
 ghost use Rattle.std.specs.Prelude.{◌≡◌};
-ghost use Rattle.memory.specs.Memory.{both, Whole};
+ghost use Rattle.memory.specs.Lending.{lent};
+ghost use Rattle.memory.specs.Memory.{both};
 ghost use Rattle.batches.specs.Batches.{is_whole, judged, check};
 
 use commands::Features;
 use image::Refusal;
+use memory::Tables;
 
 // The two batches that are compared.
 #[derive(Clone, Copy)]
@@ -61,9 +63,8 @@ fn is_whole(batch: &[u8]) -> bool
     batch.len() % 16 == 0
 }
 
-fn judge(kept: &[u64], table: &[u64], original: &[u8], proposed: &[u8], f: Features) -> Comparison
-    requires { Whole (both kept.now table.now) }
-    ensures { result ≡ judged f original.now proposed.now (both kept.now table.now) }
+fn judge(m: Tables, original: &[u8], proposed: &[u8], f: Features) -> Comparison
+    ensures { result ≡ judged f original.now proposed.now (lent m.entry) }
 {
     let first = commands_of::first_unfit(f, original);
     if let Some(k) = first {
@@ -73,7 +74,7 @@ fn judge(kept: &[u64], table: &[u64], original: &[u8], proposed: &[u8], f: Featu
     if let Some(k) = second {
         return Comparison::Unfit(Batch::Proposed, k);
     }
-    match blocks::lowest_apart(kept, table, f, original, proposed) {
+    match blocks::lowest_apart(m, f, original, proposed) {
         Some(i) => Comparison::Differ(i),
         None => Comparison::Same,
     }
@@ -94,5 +95,5 @@ pub fn check(
     if !(is_whole(original) & is_whole(proposed)) {
         return Err(CheckRefusal::BadBatch);
     }
-    Ok(judge(kept, table, original, proposed, f))
+    Ok(judge(Tables { kept, table }, original, proposed, f))
 }

@@ -8,11 +8,13 @@ ghost use Rattle.words.specs.Search.{lowest};
 ghost use Rattle.regions.specs.Table.{row_at};
 ghost use Rattle.regions.specs.Scopes.{in_region};
 ghost use Rattle.region_scopes.specs.Scopes.{is_regional};
-ghost use Rattle.memory.specs.Memory.{both, rows_in, scoped_at, Whole};
+ghost use Rattle.memory.specs.Lending.{lent};
+ghost use Rattle.memory.specs.Memory.{both, rows_in, scoped_at};
 ghost use Rattle.due.specs.Due.{Among, scanned, after_command, Ready, Made};
 ghost use Rattle.commands.specs.declared.Decoded.TheVariants.{Legal};
 
 use commands::{Command, Decoded, Features, Reason};
+use memory::Tables;
 
 // Document 02, T-09: what a raised error tells: why the command is illegal, and the slot that it is in.
 #[derive(Clone, Copy)]
@@ -57,43 +59,47 @@ fn find_region(
     let first = regions::address_of(page);
     let bytes = regions::length_of(size);
     words::lowest_in(from, to, |i| {
-        regions::in_region_of(regions::row_at(table, i - rows), first, bytes, page, size, leaf)
+        regions::in_region_of(
+            regions::row_at(table, i - rows),
+            first,
+            bytes,
+            page,
+            size,
+            leaf,
+        )
     })
 }
 
 // Of a command about the second table: no row before it is looked at.
-fn find_second(
-    kept: &[u64],
-    table: &[u64],
-    f: Features,
-    c: Command,
-    from: usize,
-    to: usize,
-) -> Option<usize>
-    requires { Among (both kept.now table.now) from to × (is_regional c ≡ true) }
-    ensures { result ≡ lowest (scoped_at f c (both kept.now table.now)) (to - from) from }
+fn find_second(m: Tables, f: Features, c: Command, from: usize, to: usize) -> Option<usize>
+    requires { Among (lent m) from to × (is_regional c ≡ true) }
+    ensures { result ≡ lowest (scoped_at f c (lent m.entry)) (to - from) from }
 {
-    let rows = kept.len() / 4;
+    let rows = m.kept.len() / 4;
     let start = from.max(rows.min(to));
     if let Command::DptiPa(page, size, leaf) = c {
-        return find_region(table, rows, page, size, leaf, start, to);
+        return find_region(m.table, rows, page, size, leaf, start, to);
     }
-    words::lowest_in(start, to, |i| region_scopes::in_table(c, regions::row_at(table, i - rows)))
+    words::lowest_in(
+        start,
+        to,
+        |i| region_scopes::in_table(c, regions::row_at(m.table, i - rows)),
+    )
 }
 
 // Of any other: only rows that its screen lets through are asked, and none of the second table.
-fn find_first(kept: &[u64], table: &[u64], f: Features, c: Command, from: usize, to: usize) -> Option<usize>
-    requires { Among (both kept.now table.now) from to × (is_regional c ≡ false) }
-    ensures { result ≡ lowest (scoped_at f c (both kept.now table.now)) (to - from) from }
+fn find_first(m: Tables, f: Features, c: Command, from: usize, to: usize) -> Option<usize>
+    requires { Among (lent m) from to × (is_regional c ≡ false) }
+    ensures { result ≡ lowest (scoped_at f c (lent m.entry)) (to - from) from }
 {
     let s = scope_screens::screen_of(f, c);
-    let end = (kept.len() / 4).min(to);
+    let end = (m.kept.len() / 4).min(to);
     let mut i = from;
     while i < end {
-        let Some(row) = screens::next(kept, s, i, end) else {
+        let Some(row) = screens::next(m.kept, s, i, end) else {
             return None;
         };
-        if scopes::in_scope(f, c, image::row_at(kept, row)) {
+        if scopes::in_scope(f, c, image::row_at(m.kept, row)) {
             return Some(row);
         }
         i = row + 1;
@@ -102,32 +108,25 @@ fn find_first(kept: &[u64], table: &[u64], f: Features, c: Command, from: usize,
 }
 
 // The lowest row from `from` on and below `to` that is in scope.
-pub fn find_in(
-    kept: &[u64],
-    table: &[u64],
-    f: Features,
-    c: Command,
-    from: usize,
-    to: usize,
-) -> Option<usize>
-    requires { Among (both kept.now table.now) from to }
-    ensures { result ≡ lowest (scoped_at f c (both kept.now table.now)) (to - from) from }
+pub fn find_in(m: Tables, f: Features, c: Command, from: usize, to: usize) -> Option<usize>
+    requires { Among (lent m) from to }
+    ensures { result ≡ lowest (scoped_at f c (lent m.entry)) (to - from) from }
 {
     if !region_scopes::is_regional(c) {
-        return find_first(kept, table, f, c, from, to);
+        return find_first(m, f, c, from, to);
     }
-    find_second(kept, table, f, c, from, to)
+    find_second(m, f, c, from, to)
 }
 
 // The lowest row from `from` on that is in scope. A command that is no invalidation is told before it is handed on.
-fn find_from(kept: &[u64], table: &[u64], f: Features, c: Command, from: usize) -> Option<usize>
-    requires { Whole (both kept.now table.now) × (from ≤ rows_in (both kept.now table.now)) }
-    ensures { result ≡ scanned f c (both kept.now table.now) from }
+fn find_from(m: Tables, f: Features, c: Command, from: usize) -> Option<usize>
+    requires { from ≤ rows_in (lent m) }
+    ensures { result ≡ scanned f c (lent m.entry) from }
 {
     if !scopes::invalidates(c) {
         return None;
     }
-    find_in(kept, table, f, c, from, kept.len() / 4 + table.len() / 2)
+    find_in(m, f, c, from, m.kept.len() / 4 + m.table.len() / 2)
 }
 
 // The control word after a command is consumed: the interrupt of a CMD_SYNC with CS 1 is pending by the same store.
@@ -148,7 +147,15 @@ pub fn step(kept: &mut [u64], table: &mut [u64], f: Features, d: Decoded, from: 
     ensures { Made f d (both kept.old table.old) (both kept.new table.new) result }
 {
     match d {
-        Decoded::Legal(c) => match find_from(&*kept, &*table, f, c, from) {
+        Decoded::Legal(c) => match find_from(
+            Tables {
+                kept: &*kept,
+                table: &*table,
+            },
+            f,
+            c,
+            from,
+        ) {
             Some(i) => {
                 let rows = kept.len() / 4;
                 if i < rows {

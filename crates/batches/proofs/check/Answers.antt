@@ -19,8 +19,8 @@ returns-in_err-check-2 c =
 pub returns-then-not-is_whole : goal.returns-then-not-is_whole
 returns-then-not-is_whole c = search (refuses-batch, c.in_ok-check.was, c.in_ok-check-2.was)
 
-pub judge-requires : goal.judge-requires
-judge-requires c = search (whole-memory, c.in_ok-check.was, c.in_ok-check-2.was)
+pub invariant_of-judge : goal.invariant_of-judge
+invariant_of-judge c = record { whole = search (whole-memory, c.in_ok-check.was, c.in_ok-check-2.was) }
 
 pub returns : goal.returns
 returns c = search (continues, c.in_ok-check.was, c.in_ok-check-2.was)

@@ -10,7 +10,7 @@ use Rattle.due.proofs.find_first.Goals as goal
 pub returns-in_default : goal.returns-in_default
 returns-in_default c =
     let s = c in
-    none_let (screened s.args.f s.args.c (both s.args.kept.now s.args.table.now) s.args.from s.args.to _ s.requires.1 c.min-end.ensures) c.loop-i.invariant (omega (arith, c.loop-i-test.true))
+    none_let (screened s.args.f s.args.c (both s.args.m.kept.now s.args.m.table.now) s.args.from s.args.to _ s.requires.1 c.min-end.ensures) c.loop-i.invariant (omega (arith, c.loop-i-test.true))
     (rw c.screen_of-s.ensures at (sym c.next.ensures ∙ c.in_default.is))
 
 pub row_at-requires : goal.row_at-requires
@@ -20,17 +20,17 @@ row_at-requires c =
       arith,
       s.requires.0.room,
       c.min-end.ensures,
-      let_below (screened s.args.f s.args.c (both s.args.kept.now s.args.table.now) s.args.from s.args.to _ s.requires.1 c.min-end.ensures) c.loop-i.invariant (omega (arith, c.loop-i-test.true))
+      let_below (screened s.args.f s.args.c (both s.args.m.kept.now s.args.m.table.now) s.args.from s.args.to _ s.requires.1 c.min-end.ensures) c.loop-i.invariant (omega (arith, c.loop-i-test.true))
           (rw c.screen_of-s.ensures at (sym c.next.ensures ∙ c.in-Some.is)),
     )
 
 pub returns-then-in_scope : goal.returns-then-in_scope
 returns-then-in_scope c =
     let s = c in
-    let w = (screened s.args.f s.args.c (both s.args.kept.now s.args.table.now) s.args.from s.args.to _ s.requires.1 c.min-end.ensures) in
+    let w = (screened s.args.f s.args.c (both s.args.m.kept.now s.args.m.table.now) s.args.from s.args.to _ s.requires.1 c.min-end.ensures) in
     let_finds w c.loop-i.invariant (omega (arith, c.loop-i-test.true))
     (rw c.screen_of-s.ensures at (sym c.next.ensures ∙ c.in-Some.is))
-    (in_first s.args.f s.args.c (both s.args.kept.now s.args.table.now) s.args.from s.args.to _ _ c.min-end.ensures (let_below w c.loop-i.invariant (omega (arith, c.loop-i-test.true))
+    (in_first s.args.f s.args.c (both s.args.m.kept.now s.args.m.table.now) s.args.from s.args.to _ _ c.min-end.ensures (let_below w c.loop-i.invariant (omega (arith, c.loop-i-test.true))
     (rw c.screen_of-s.ensures at (sym c.next.ensures ∙ c.in-Some.is)))
     ∙ (rw c.row_at.ensures at (sym c.in_scope.ensures ∙ c.if-in_scope.true)))
 
@@ -42,7 +42,7 @@ overflow_add-i c =
         arith,
         s.ranges.to,
         c.min-end.ensures,
-        let_below (screened s.args.f s.args.c (both s.args.kept.now s.args.table.now) s.args.from s.args.to _ s.requires.1 c.min-end.ensures) c.loop-i.invariant (omega (arith, c.loop-i-test.true))
+        let_below (screened s.args.f s.args.c (both s.args.m.kept.now s.args.m.table.now) s.args.from s.args.to _ s.requires.1 c.min-end.ensures) c.loop-i.invariant (omega (arith, c.loop-i-test.true))
             (rw c.screen_of-s.ensures at (sym c.next.ensures ∙ c.in-Some.is)),
       );
     }
@@ -50,7 +50,7 @@ overflow_add-i c =
 pub loop-i-smaller : goal.loop-i-smaller
 loop-i-smaller c =
     let s = c in
-    let w = (screened s.args.f s.args.c (both s.args.kept.now s.args.table.now) s.args.from s.args.to _ s.requires.1 c.min-end.ensures) in
+    let w = (screened s.args.f s.args.c (both s.args.m.kept.now s.args.m.table.now) s.args.from s.args.to _ s.requires.1 c.min-end.ensures) in
     omega (
       arith,
       c.min-end.ensures,
@@ -63,12 +63,12 @@ loop-i-smaller c =
 pub loop-i-preserved : goal.loop-i-preserved
 loop-i-preserved c =
     let s = c in
-    let w = (screened s.args.f s.args.c (both s.args.kept.now s.args.table.now) s.args.from s.args.to _ s.requires.1 c.min-end.ensures) in
+    let w = (screened s.args.f s.args.c (both s.args.m.kept.now s.args.m.table.now) s.args.from s.args.to _ s.requires.1 c.min-end.ensures) in
     let_passes w c.loop-i.invariant (omega (arith, c.loop-i-test.true))
     (rw c.screen_of-s.ensures at (sym c.next.ensures ∙ c.in-Some.is))
-    (in_first s.args.f s.args.c (both s.args.kept.now s.args.table.now) s.args.from s.args.to _ _ c.min-end.ensures (let_below w c.loop-i.invariant (omega (arith, c.loop-i-test.true))
+    (in_first s.args.f s.args.c (both s.args.m.kept.now s.args.m.table.now) s.args.from s.args.to _ _ c.min-end.ensures (let_below w c.loop-i.invariant (omega (arith, c.loop-i-test.true))
     (rw c.screen_of-s.ensures at (sym c.next.ensures ∙ c.in-Some.is)))
     ∙ (rw c.row_at.ensures at (sym c.in_scope.ensures ∙ c.if-in_scope.false)))
 
 pub returns : goal.returns
-returns c = let s = c in spent (screened s.args.f s.args.c (both s.args.kept.now s.args.table.now) s.args.from s.args.to _ s.requires.1 c.min-end.ensures) c.loop-i.invariant c.loop-i-test.false
+returns c = let s = c in spent (screened s.args.f s.args.c (both s.args.m.kept.now s.args.m.table.now) s.args.from s.args.to _ s.requires.1 c.min-end.ensures) c.loop-i.invariant c.loop-i-test.false

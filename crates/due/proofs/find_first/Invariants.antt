@@ -3,12 +3,13 @@
 use Prim.Native.Nat.{◌-◌}
 use Rattle.words.specs.Search.{lowest}
 use Rattle.words.proofs.Search.{Searching}
-use Rattle.memory.specs.Memory.{both, scoped_at}
+use Rattle.memory.specs.Lending.{lent}
+use Rattle.memory.specs.Memory.{scoped_at}
 use Rattle.due.proofs.find_first.Given as goal
 
 abbrev pub invariant-loop-i : goal.invariant-loop-i
 invariant-loop-i l =
-    Searching (scoped_at l.f l.c (both l.kept l.table)) l.to (lowest (scoped_at l.f l.c (both l.kept l.table)) (l.to - l.from) l.from) l.i
+    Searching (scoped_at l.f l.c (lent l.m)) l.to (lowest (scoped_at l.f l.c (lent l.m)) (l.to - l.from) l.from) l.i
 
 abbrev pub decreases-loop-i : goal.decreases-loop-i
 decreases-loop-i l =

@@ -12,19 +12,19 @@ use Rattle.due.proofs.find_second.Goals as goal
 pub returns-in-DptiPa : goal.returns-in-DptiPa
 returns-in-DptiPa c =
     let whole :
-    lowest (scoped_at c.args.f c.args.c (both c.args.kept.now c.args.table.now)) (c.args.to - c.args.from) c.args.from
-    ≡ lowest (second_at c.args.c c.args.table.now (length c.args.kept.now / 4)) (c.args.to - c.max-start.result) c.max-start.result =
+    lowest (scoped_at c.args.f c.args.c (both c.args.m.kept.now c.args.m.table.now)) (c.args.to - c.args.from) c.args.from
+    ≡ lowest (second_at c.args.c c.args.m.table.now (length c.args.m.kept.now / 4)) (c.args.to - c.max-start.result) c.max-start.result =
     let s = c in
-    from_second s.args.f s.args.c (both s.args.kept.now s.args.table.now) s.args.from s.args.to _ s.requires.1 s.requires.0.order
+    from_second s.args.f s.args.c (both s.args.m.kept.now s.args.m.table.now) s.args.from s.args.to _ s.requires.1 s.requires.0.order
     (rw c.min.ensures at c.max-start.ensures) in
     c.find_region.ensures ∙ of_region _ _ _ _ c.in-DptiPa.is _ _ _ _ ∙ sym whole
 
 pub returns : goal.returns
 returns c =
     let whole :
-    lowest (scoped_at c.args.f c.args.c (both c.args.kept.now c.args.table.now)) (c.args.to - c.args.from) c.args.from
-    ≡ lowest (second_at c.args.c c.args.table.now (length c.args.kept.now / 4)) (c.args.to - c.max-start.result) c.max-start.result =
+    lowest (scoped_at c.args.f c.args.c (both c.args.m.kept.now c.args.m.table.now)) (c.args.to - c.args.from) c.args.from
+    ≡ lowest (second_at c.args.c c.args.m.table.now (length c.args.m.kept.now / 4)) (c.args.to - c.max-start.result) c.max-start.result =
     let s = c in
-    from_second s.args.f s.args.c (both s.args.kept.now s.args.table.now) s.args.from s.args.to _ s.requires.1 s.requires.0.order
+    from_second s.args.f s.args.c (both s.args.m.kept.now s.args.m.table.now) s.args.from s.args.to _ s.requires.1 s.requires.0.order
     (rw c.min.ensures at c.max-start.ensures) in
-    c.lowest_in.ensures (second_at c.args.c c.args.table.now (length c.args.kept.now / 4)) (λ i b l h e. search rules) ∙ sym whole
+    c.lowest_in.ensures (second_at c.args.c c.args.m.table.now (length c.args.m.kept.now / 4)) (λ i b l h e. search rules) ∙ sym whole
