@@ -9,7 +9,7 @@ ghost use Rattle.regions.specs.Table.{row_at};
 ghost use Rattle.regions.specs.Scopes.{in_region};
 ghost use Rattle.region_scopes.specs.Scopes.{is_regional};
 ghost use Rattle.memory.specs.Lending.{lent};
-ghost use Rattle.memory.specs.Memory.{both, rows_in, scoped_at};
+ghost use Rattle.memory.specs.Memory.{both, rows_in, scoped_at, Whole};
 ghost use Rattle.due.specs.Due.{Among, scanned, after_command, Ready, Made};
 ghost use Rattle.commands.specs.declared.Decoded.TheVariants.{Legal};
 
@@ -59,14 +59,8 @@ fn find_region(
     let first = regions::address_of(page);
     let bytes = regions::length_of(size);
     words::lowest_in(from, to, |i| {
-        regions::in_region_of(
-            regions::row_at(table, i - rows),
-            first,
-            bytes,
-            page,
-            size,
-            leaf,
-        )
+        let row = regions::row_at(table, i - rows);
+        regions::in_region_of(row, first, bytes, page, size, leaf)
     })
 }
 
@@ -80,11 +74,10 @@ fn find_second(m: Tables, f: Features, c: Command, from: usize, to: usize) -> Op
     if let Command::DptiPa(page, size, leaf) = c {
         return find_region(m.table, rows, page, size, leaf, start, to);
     }
-    words::lowest_in(
-        start,
-        to,
-        |i| region_scopes::in_table(c, regions::row_at(m.table, i - rows)),
-    )
+    words::lowest_in(start, to, |i| {
+        let row = regions::row_at(m.table, i - rows);
+        region_scopes::in_table(c, row)
+    })
 }
 
 // Of any other: only rows that its screen lets through are asked, and none of the second table.
@@ -119,14 +112,15 @@ pub fn find_in(m: Tables, f: Features, c: Command, from: usize, to: usize) -> Op
 }
 
 // The lowest row from `from` on that is in scope. A command that is no invalidation is told before it is handed on.
-fn find_from(m: Tables, f: Features, c: Command, from: usize) -> Option<usize>
-    requires { from ≤ rows_in (lent m) }
-    ensures { result ≡ scanned f c (lent m.entry) from }
+fn find_from(kept: &[u64], table: &[u64], f: Features, c: Command, from: usize) -> Option<usize>
+    requires { Whole (both kept.now table.now) × (from ≤ rows_in (both kept.now table.now)) }
+    ensures { result ≡ scanned f c (both kept.now table.now) from }
 {
     if !scopes::invalidates(c) {
         return None;
     }
-    find_in(m, f, c, from, m.kept.len() / 4 + m.table.len() / 2)
+    let rows = kept.len() / 4 + table.len() / 2;
+    find_in(Tables { kept, table }, f, c, from, rows)
 }
 
 // The control word after a command is consumed: the interrupt of a CMD_SYNC with CS 1 is pending by the same store.
@@ -147,15 +141,7 @@ pub fn step(kept: &mut [u64], table: &mut [u64], f: Features, d: Decoded, from: 
     ensures { Made f d (both kept.old table.old) (both kept.new table.new) result }
 {
     match d {
-        Decoded::Legal(c) => match find_from(
-            Tables {
-                kept: &*kept,
-                table: &*table,
-            },
-            f,
-            c,
-            from,
-        ) {
+        Decoded::Legal(c) => match find_from(&*kept, &*table, f, c, from) {
             Some(i) => {
                 let rows = kept.len() / 4;
                 if i < rows {
