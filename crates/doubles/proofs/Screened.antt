@@ -78,8 +78,12 @@ module _ (words row : Row) (fits : row.w2 < 2 ^ 64) where
       ⊎_elim (λ s. ste_case b s) (λ s. ⊎_elim (λ c. cd_case b s c) (λ c. by-stage b s c) (decided (eqb (rows.kind words) rows.cd)))
       (decided (eqb (rows.kind words) rows.ste))
 
--- so it is the wider test of rows whose words fit the machine's
+-- so are rows at their places that collide, whose words fit the machine's, and it is the wider test of these
+pub let_through : (kept : List ℕ) (words : Row) (s : Screen) → ((k : ℕ) → get_or kept k 0 < 2 ^ 64) → s ≡ screen_of words
+    → (j : ℕ) → collides_at kept words j ≡ true → passes_at s kept j ≡ true
+unfolding collides_at row_at
+let_through kept words s f e j c = rw e (screened words (row_at kept j) (f (4 * j + 3)) c)
+
 pub wider : (kept : List ℕ) (n : ℕ) (words : Row) (s : Screen) → ((k : ℕ) → get_or kept k 0 < 2 ^ 64) → s ≡ screen_of words
     → Wider (collides_at kept words) (passes_at s kept) n n
-unfolding collides_at row_at
-wider kept n words s f e = rw e (lets_through (λ j c. screened words (row_at kept j) (f (4 * j + 3)) c))
+wider kept n words s f e = lets_through (let_through kept words s f e)

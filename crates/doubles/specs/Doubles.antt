@@ -8,6 +8,7 @@ use Rattle.rows.specs.declared.Row.{Row}
 use Rattle.rows.specs.Rows as rows
 use Rattle.image.specs.Image.{row_at}
 use Rattle.screens.specs.Places.{stream_mask, answer_mask, answer_vmid_mask, of_answer}
+use Rattle.screens.specs.Screens.{under}
 use Rattle.screens.specs.declared.Screen.{Screen}
 use Rattle.screens.specs.declared.Screen.TheVariants.{Named, Reaching}
 
@@ -49,9 +50,9 @@ more_bytes words = 2 ^ rows.span words - 1
 
 unfoldable pub screen_of : Row → Screen
 screen_of words =
-    pick (rows.kind words == rows.ste) (Named answer_mask (of_answer rows.ste) stream_mask (rows.stream words))
-    (pick (rows.kind words == rows.cd) (Named answer_mask (of_answer rows.cd) stream_mask (rows.stream words))
-    (Reaching answer_vmid_mask (bit_and words.w0 answer_vmid_mask) ((words.w2 + more_bytes words) % 2 ^ 64) (more_bytes words)))
+    pick (rows.kind words == rows.ste) (Named (under answer_mask (of_answer rows.ste)) (under stream_mask (rows.stream words)))
+    (pick (rows.kind words == rows.cd) (Named (under answer_mask (of_answer rows.cd)) (under stream_mask (rows.stream words)))
+    (Reaching (under answer_vmid_mask (bit_and words.w0 answer_vmid_mask)) ((words.w2 + more_bytes words) % 2 ^ 64) (more_bytes words)))
 
 abbrev pub is_found : Option ℕ → Bool
 is_found (Some i) = true

@@ -5,7 +5,7 @@ ghost use Rattle.std.specs.Prelude.{◌≡◌, ◌+◌, ◌*◌, ◌≤◌, leng
 ghost use Rattle.doubles.specs.Doubles.{same_context, shares_address, shares_stage, shares_asid, shares, collides, collides_at, screen_of, doubled};
 
 use rows::{Kind, Row};
-use screens::{Screen, answering, places};
+use screens::{Screen, answering, under};
 
 #[tactic(auto, unfolding(rows::specs::Rows::parts_of))]
 fn same_context(a: Row, b: Row) -> bool
@@ -80,21 +80,20 @@ fn screen_of(words: Row) -> Screen
 {
     let stream = rows::stream_of(words);
     match rows::kind_of(words) {
-        Kind::Ste => Screen::Named(answering::KIND, answering::STE, places::STREAM, stream),
-        Kind::Cd => Screen::Named(answering::KIND, answering::CD, places::STREAM, stream),
+        Kind::Ste => answering::of_stream(answering::STE, stream),
+        Kind::Cd => answering::of_stream(answering::CD, stream),
         Kind::Stage1 | Kind::Stage2 => {
             let more = words::power(rows::span_of(words)) - 1;
-            Screen::Reaching(
-                answering::KIND_VMID,
-                words.w0 & answering::KIND_VMID,
-                std::num::wrapping_add_u64(words.w2, more),
+            Screen::Reaching {
+                word0: under(answering::KIND_VMID, words.w0 & answering::KIND_VMID),
+                last: std::num::wrapping_add_u64(words.w2, more),
                 more,
-            )
+            }
         }
     }
 }
 
-// Whether the words collide with one of the first n rows. Only rows that the screen lets through are asked.
+// Whether the words collide with one of the first n rows.
 pub fn doubled(kept: &[u64], n: usize, words: Row) -> bool
     requires { 4 * n + 1 ≤ length kept.now }
     ensures { result ≡ doubled kept.now n words }
@@ -103,15 +102,5 @@ pub fn doubled(kept: &[u64], n: usize, words: Row) -> bool
         return false;
     }
     let s = screen_of(words);
-    let mut i = 0;
-    while i < n {
-        let Some(row) = screens::next(kept, s, i, n) else {
-            return false;
-        };
-        if collides_at(kept, words, row) {
-            return true;
-        }
-        i = row + 1;
-    }
-    false
+    screens::find(kept, s, 0, n, |i| collides_at(kept, words, i)).is_some()
 }

@@ -77,7 +77,10 @@ module _ (row : Row) where
   pub screened : (w : Wanted) → answers w row ≡ true → passes (screen_of w) row ≡ true
   screened w e = by-step (only_answerers w row e) w (answers-fits w row e)
 
--- so it is the wider test of all rows
-pub wider : (kept : List ℕ) (w : Wanted) (s : Screen) → s ≡ screen_of w → Wider (answers_at kept w) (passes_at s kept) (rows_in kept) (rows_in kept)
+-- so are those that answer at their places, and it is the wider test of all rows
+pub let_through : (kept : List ℕ) (w : Wanted) (s : Screen) → s ≡ screen_of w → (j : ℕ) → answers_at kept w j ≡ true → passes_at s kept j ≡ true
 unfolding answers_at
-wider kept w s e = rw e (lets_through (λ j a. screened (row_at kept j) w a))
+let_through kept w s e j a = rw e (screened (row_at kept j) w a)
+
+pub wider : (kept : List ℕ) (w : Wanted) (s : Screen) → s ≡ screen_of w → Wider (answers_at kept w) (passes_at s kept) (rows_in kept) (rows_in kept)
+wider kept w s e = lets_through (let_through kept w s e)

@@ -6,6 +6,7 @@ use Rattle.rows.specs.declared.Row.{Row}
 use Rattle.rows.specs.Rows as rows
 use Rattle.image.specs.Image.{rows_in, row_at}
 use Rattle.screens.specs.Places.{stream_mask, answer_mask, answer_vmid_mask, of_answer, of_vmid}
+use Rattle.screens.specs.Screens.{under}
 use Rattle.screens.specs.declared.Screen.{Screen}
 use Rattle.screens.specs.declared.Screen.TheVariants.{Named, Covering}
 use Rattle.lookups.specs.declared.Wanted.{Wanted}
@@ -33,10 +34,10 @@ answers_at m w i = answers w (row_at m i)
 
 -- Document 02, T-13: what a row must be like to answer; no promise cites this
 abbrev pub screen_of : Wanted → Screen
-screen_of (Ste stream) = Named answer_mask (of_answer rows.ste) stream_mask stream
-screen_of (Cd stream substream) = Named answer_mask (of_answer rows.cd) stream_mask stream
-screen_of (Stage1 vmid asid address) = Covering answer_vmid_mask (of_answer rows.stage1 + of_vmid vmid) address
-screen_of (Stage2 vmid address) = Covering answer_vmid_mask (of_answer rows.stage2 + of_vmid vmid) address
+screen_of (Ste stream) = Named (under answer_mask (of_answer rows.ste)) (under stream_mask stream)
+screen_of (Cd stream substream) = Named (under answer_mask (of_answer rows.cd)) (under stream_mask stream)
+screen_of (Stage1 vmid asid address) = Covering (under answer_vmid_mask (of_answer rows.stage1 + of_vmid vmid)) address
+screen_of (Stage2 vmid address) = Covering (under answer_vmid_mask (of_answer rows.stage2 + of_vmid vmid)) address
 
 -- the place of the lowest-numbered such row
 unfoldable pub find : List ℕ → Wanted → Option ℕ

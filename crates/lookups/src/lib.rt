@@ -6,16 +6,16 @@ ghost use Rattle.image.specs.Image.{rows_in};
 ghost use Rattle.lookups.specs.Lookups.{fits, answers, answers_at, screen_of, find, look};
 
 use rows::{Kind, Row};
-use screens::{Screen, answering, places};
+use screens::{Screen, answering, places, under};
 
 // What a step looks for: the STE row of a stream, the CD row of a stream and a substream, the stage 1 row of a VMID,
 // an ASID and an address, the stage 2 row of a VMID and an address.
 #[derive(Clone, Copy)]
 pub enum Wanted {
-    Ste(u64),
-    Cd(u64, u64),
-    Stage1(u64, u64, u64),
-    Stage2(u64, u64),
+    Ste { stream: u64 },
+    Cd { stream: u64, substream: u64 },
+    Stage1 { vmid: u64, asid: u64, address: u64 },
+    Stage2 { vmid: u64, address: u64 },
 }
 
 #[tactic(auto, using(rows::proofs::Numbers::same_kind, rows::proofs::Numbers::kind_read), unfolding(crate::specs::Lookups::fits, rows::specs::Rows::parts_of))]
@@ -24,17 +24,21 @@ fn fits(w: Wanted, row: Row) -> bool
 {
     let p = rows::parts_of(row);
     match w {
-        Wanted::Ste(stream) => (p.kind == Kind::Ste) & (p.stream == stream),
-        Wanted::Cd(stream, substream) => {
+        Wanted::Ste { stream } => (p.kind == Kind::Ste) & (p.stream == stream),
+        Wanted::Cd { stream, substream } => {
             (p.kind == Kind::Cd) & (p.stream == stream) & (p.substream == substream)
         }
-        Wanted::Stage1(vmid, asid, address) => {
+        Wanted::Stage1 {
+            vmid,
+            asid,
+            address,
+        } => {
             (p.kind == Kind::Stage1)
                 & (p.vmid == vmid)
                 & (p.global | (p.asid == asid))
                 & rows::covers(row, address)
         }
-        Wanted::Stage2(vmid, address) => {
+        Wanted::Stage2 { vmid, address } => {
             (p.kind == Kind::Stage2) & (p.vmid == vmid) & rows::covers(row, address)
         }
     }
@@ -59,43 +63,32 @@ fn screen_of(w: Wanted) -> Screen
     ensures { result ≡ screen_of w }
 {
     match w {
-        Wanted::Ste(stream) => {
-            Screen::Named(answering::KIND, answering::STE, places::STREAM, stream)
-        }
-        Wanted::Cd(stream, _) => {
-            Screen::Named(answering::KIND, answering::CD, places::STREAM, stream)
-        }
-        Wanted::Stage1(vmid, _, address) => Screen::Covering(
-            answering::KIND_VMID,
-            answering::STAGE1 + places::of_vmid(vmid),
+        Wanted::Ste { stream } => answering::of_stream(answering::STE, stream),
+        Wanted::Cd { stream, .. } => answering::of_stream(answering::CD, stream),
+        Wanted::Stage1 { vmid, address, .. } => Screen::Covering {
+            word0: under(
+                answering::KIND_VMID,
+                answering::STAGE1 + places::of_vmid(vmid),
+            ),
             address,
-        ),
-        Wanted::Stage2(vmid, address) => Screen::Covering(
-            answering::KIND_VMID,
-            answering::STAGE2 + places::of_vmid(vmid),
+        },
+        Wanted::Stage2 { vmid, address } => Screen::Covering {
+            word0: under(
+                answering::KIND_VMID,
+                answering::STAGE2 + places::of_vmid(vmid),
+            ),
             address,
-        ),
+        },
     }
 }
 
-// The place of the lowest row that answers. Only rows that the screen lets through are asked.
+// The place of the lowest row that answers.
 fn find(kept: &[u64], w: Wanted) -> Option<usize>
     requires { 4 * rows_in kept.now + 1 ≤ length kept.now }
     ensures { result ≡ find kept.now w }
 {
-    let rows = kept.len() / 4;
     let s = screen_of(w);
-    let mut i = 0;
-    while i < rows {
-        let Some(row) = screens::next(kept, s, i, rows) else {
-            return None;
-        };
-        if answers_at(kept, w, row) {
-            return Some(row);
-        }
-        i = row + 1;
-    }
-    None
+    screens::find(kept, s, 0, kept.len() / 4, |i| answers_at(kept, w, i))
 }
 
 // The lowest row that answers.
@@ -103,8 +96,6 @@ pub fn look(kept: &[u64], w: Wanted) -> Option<Row>
     requires { 4 * rows_in kept.now + 1 ≤ length kept.now }
     ensures { result ≡ look kept.now w }
 {
-    match find(kept, w) {
-        Some(i) => Some(image::row_at(kept, i)),
-        None => None,
-    }
+    let i = find(kept, w)?;
+    Some(image::row_at(kept, i))
 }

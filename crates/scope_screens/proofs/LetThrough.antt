@@ -19,7 +19,7 @@ use Rattle.scopes.proofs.Laws.{Scoped, scoped}
 use Rattle.scopes.proofs.Ranges.{single-length}
 use Rattle.screens.specs.declared.Screen.TheVariants.{Marked}
 use Rattle.screens.specs.Places.{mask_of, stages_bits, of_kind, of_mark, of_vmid, of_asid}
-use Rattle.screens.specs.Screens.{marked, named, streaming, passes}
+use Rattle.screens.specs.Screens.{under, marked, named, streaming, passes}
 use Rattle.screens.proofs.Answerers.{vmid-placed, asid-placed, stream-under}
 use Rattle.screens.proofs.Distances.{covers-near, shares-about}
 use Rattle.scope_screens.specs.ScopeScreens.{kind_mask, own_mask, own_asid_mask, stage_mask, stage_asid_mask, either_mask, any_mask, regime_at, aimed, of_block, of_context, screen_of}
@@ -88,25 +88,25 @@ module _ (row : Row) where
   unfolding marked
   marked-so mask value d = eq-eqb (bit_and row.w0 mask) value d
 
-  aimed-passes : (mask value : ℕ) (t : Target) → rows.is_empty row ≡ false → bit_and row.w0 mask ≡ value → reaches t row ≡ true → passes (aimed mask value t) row ≡ true
+  aimed-passes : (mask value : ℕ) (t : Target) → rows.is_empty row ≡ false → bit_and row.w0 mask ≡ value → reaches t row ≡ true → passes (aimed (under mask value) t) row ≡ true
   aimed-passes mask value t used d e = ⊎_elim single several (decided (eqb (tg_of t) 0))
     where
-      single : eqb (tg_of t) 0 ≡ true → passes (aimed mask value t) row ≡ true
+      single : eqb (tg_of t) 0 ≡ true → passes (aimed (under mask value) t) row ≡ true
       single z =
           let before : row.w2 ≤ first_of t = omega (arith, ends t row e, single-length t (eqb-true (tg_of t) 0 z)) in
           rw (z, used, covers-near row (first_of t) before (begins t row e)) (marked-so mask value d)
 
-      several : eqb (tg_of t) 0 ≡ false → passes (aimed mask value t) row ≡ true
+      several : eqb (tg_of t) 0 ≡ false → passes (aimed (under mask value) t) row ≡ true
       several n =
           rw (n, used, shares-about row (first_of t) (length_of t - 1) (below_top t row e) (length_small t) (omega (arith, ends t row e)) (begins t row e))
           (marked-so mask value d)
 
-  stage-aimed : (k v : ℕ) (t : Target) → rows.is_empty row ≡ false → stage_at row k v t ≡ true → passes (aimed stage_mask (of_kind k + of_vmid v) t) row ≡ true
+  stage-aimed : (k v : ℕ) (t : Target) → rows.is_empty row ≡ false → stage_at row k v t ≡ true → passes (aimed (under stage_mask (of_kind k + of_vmid v)) t) row ≡ true
   unfolding stage_at
   stage-aimed k v t used e =
       aimed-passes stage_mask (of_kind k + of_vmid v) t used (stage-marked k v (left (stage_of row k v) (reaches t row) e)) (right (stage_of row k v) (reaches t row) e)
 
-  own-aimed : (f : Features) (t : Target) → rows.is_empty row ≡ false → own_at row t ≡ true → eqb (rows.mark row) (regime f) ≡ true → passes (aimed own_mask (of_kind rows.stage1 + regime_at f) t) row ≡ true
+  own-aimed : (f : Features) (t : Target) → rows.is_empty row ≡ false → own_at row t ≡ true → eqb (rows.mark row) (regime f) ≡ true → passes (aimed (under own_mask (of_kind rows.stage1 + regime_at f)) t) row ≡ true
   unfolding own_at
   own-aimed f t used e r =
       let own = left (own_of row) (reaches t row) e in
@@ -182,7 +182,7 @@ module _ (row : Row) where
 
 -- what a command removes passes its screen
 module _ (f : Features) (row : Row) where
-  marked-passes : (mask value : ℕ) → bit_and row.w0 mask ≡ value → passes (Marked mask value) row ≡ true
+  marked-passes : (mask value : ℕ) → bit_and row.w0 mask ≡ value → passes (Marked (under mask value)) row ≡ true
   marked-passes mask value d = marked-so row mask value d
 
   screened : (c : Command) → Scoped f c row → passes (screen_of f c) row ≡ true

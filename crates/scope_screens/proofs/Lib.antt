@@ -1,4 +1,3 @@
 mod Near
 mod Words
-mod Cases
 pub mod LetThrough

@@ -11,6 +11,8 @@ use Rattle.commands.specs.declared.Command.TheVariants.{PrefetchConfig, Prefetch
 use Rattle.scopes.specs.Scopes.{open_bits, regime}
 use Rattle.scopes.specs.Ranges.{tg_of, first_of, length_of}
 use Rattle.screens.specs.Places.{mask_of, stages_bits, stream_mask, of_kind, of_mark, of_vmid, of_asid}
+use Rattle.screens.specs.Screens.{under}
+use Rattle.screens.specs.declared.Pattern.{Pattern}
 use Rattle.screens.specs.declared.Screen.{Screen}
 use Rattle.screens.specs.declared.Screen.TheVariants.{Nobody, Marked, Named, Streaming, Covering, Reaching}
 
@@ -41,16 +43,16 @@ any_mask = mask_of (stages_bits ∷ rows.mark_bits ∷ [])
 abbrev pub regime_at : Features → ℕ
 regime_at f = of_mark (regime f)
 
-abbrev pub aimed : ℕ → ℕ → Target → Screen
-aimed mask value target =
-    pick (tg_of target == 0) (Covering mask value (first_of target))
-    (Reaching mask value ((first_of target + (length_of target - 1)) % 2 ^ 64) (length_of target - 1))
+abbrev pub aimed : Pattern → Target → Screen
+aimed word0 target =
+    pick (tg_of target == 0) (Covering word0 (first_of target))
+    (Reaching word0 ((first_of target + (length_of target - 1)) % 2 ^ 64) (length_of target - 1))
 
 abbrev pub of_block : ℕ → ℕ → Screen
-of_block stream span = Streaming (2 ^ 32 - 2 ^ span) (stream / 2 ^ span * 2 ^ span)
+of_block stream span = Streaming (under (2 ^ 32 - 2 ^ span) (stream / 2 ^ span * 2 ^ span))
 
 abbrev pub of_context : ℕ → Screen
-of_context stream = Named kind_mask (of_kind rows.cd) stream_mask stream
+of_context stream = Named (under kind_mask (of_kind rows.cd)) (under stream_mask stream)
 
 unfoldable pub screen_of : Features → Command → Screen
 screen_of f PrefetchConfig = Nobody
@@ -59,17 +61,17 @@ screen_of f (CfgiSte stream leaf) = of_block stream 0
 screen_of f (CfgiSteRange stream range) = of_block stream (open_bits range)
 screen_of f (CfgiCd substream stream leaf) = of_context stream
 screen_of f (CfgiCdAll stream) = of_context stream
-screen_of f (TlbiNhAll vmid) = Marked stage_mask (of_kind rows.stage1 + of_vmid vmid)
-screen_of f (TlbiNhAsid vmid asid) = Marked stage_asid_mask (of_kind rows.stage1 + of_vmid vmid + of_asid asid)
-screen_of f (TlbiNhVa vmid asid target) = aimed stage_mask (of_kind rows.stage1 + of_vmid vmid) target
-screen_of f (TlbiNhVaa vmid target) = aimed stage_mask (of_kind rows.stage1 + of_vmid vmid) target
-screen_of f TlbiEl2All = Marked kind_mask (of_kind rows.stage1)
-screen_of f (TlbiEl2Asid asid) = Marked own_asid_mask (of_kind rows.stage1 + of_mark rows.el2_e2h + of_asid asid)
-screen_of f (TlbiEl2Va asid target) = aimed own_mask (of_kind rows.stage1 + regime_at f) target
-screen_of f (TlbiEl2Vaa target) = aimed own_mask (of_kind rows.stage1 + regime_at f) target
-screen_of f (TlbiS12Vmall vmid) = Marked either_mask (of_kind rows.stage1 + of_vmid vmid)
-screen_of f (TlbiS2Ipa vmid target) = aimed stage_mask (of_kind rows.stage2 + of_vmid vmid) target
-screen_of f TlbiNsnhAll = Marked any_mask (of_kind rows.stage1)
+screen_of f (TlbiNhAll vmid) = Marked (under stage_mask (of_kind rows.stage1 + of_vmid vmid))
+screen_of f (TlbiNhAsid vmid asid) = Marked (under stage_asid_mask (of_kind rows.stage1 + of_vmid vmid + of_asid asid))
+screen_of f (TlbiNhVa vmid asid target) = aimed (under stage_mask (of_kind rows.stage1 + of_vmid vmid)) target
+screen_of f (TlbiNhVaa vmid target) = aimed (under stage_mask (of_kind rows.stage1 + of_vmid vmid)) target
+screen_of f TlbiEl2All = Marked (under kind_mask (of_kind rows.stage1))
+screen_of f (TlbiEl2Asid asid) = Marked (under own_asid_mask (of_kind rows.stage1 + of_mark rows.el2_e2h + of_asid asid))
+screen_of f (TlbiEl2Va asid target) = aimed (under own_mask (of_kind rows.stage1 + regime_at f)) target
+screen_of f (TlbiEl2Vaa target) = aimed (under own_mask (of_kind rows.stage1 + regime_at f)) target
+screen_of f (TlbiS12Vmall vmid) = Marked (under either_mask (of_kind rows.stage1 + of_vmid vmid))
+screen_of f (TlbiS2Ipa vmid target) = aimed (under stage_mask (of_kind rows.stage2 + of_vmid vmid)) target
+screen_of f TlbiNsnhAll = Marked (under any_mask (of_kind rows.stage1))
 screen_of f (Sync cs) = Nobody
 screen_of f DptiAll = Nobody
 screen_of f (DptiPa page size leaf) = Nobody

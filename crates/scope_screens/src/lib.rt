@@ -2,12 +2,14 @@
 // worked out once; whether a row that is let through is in scope the scope itself says.
 #![tactic(auto)]
 
-ghost use Rattle.std.specs.Prelude.{◌≡◌, ◌*◌, ◌^◌, ◌≤◌};
-ghost use Rattle.scope_screens.specs.ScopeScreens.{regime_at, aimed, of_block, of_context, screen_of};
+ghost use Rattle.std.specs.Prelude.{◌≡◌, ◌+◌, ◌*◌, ◌^◌, ◌<◌, ◌≤◌};
+ghost use Rattle.screens.specs.Places.{of_vmid};
+ghost use Rattle.screens.specs.Screens.{under};
+ghost use Rattle.scope_screens.specs.ScopeScreens.{stage_mask, regime_at, aimed, of_block, of_context, screen_of};
 
 use commands::{Command, Features, Target};
 use screens::places::{EL2_E2H, STAGE1, STAGE2};
-use screens::{Screen, places};
+use screens::{Pattern, Screen, places, under};
 
 // Word 0 by its parts.
 const OWN: u64 = places::KIND + places::MARK;
@@ -23,16 +25,31 @@ const ANY_STAGE: u64 = places::STAGES + places::MARK;
 
 const EITHER_STAGE: u64 = ANY_STAGE + places::VMID;
 
+// Unmarked rows of a stage, which is its kind in its place, and of a VMID.
+fn stage(kind: u64, vmid: u64) -> Pattern
+    requires { kind < 2 ^ 16 }
+    ensures { result ≡ under stage_mask (kind + of_vmid vmid) }
+{
+    under(STAGE, kind + places::of_vmid(vmid))
+}
+
 // A single address has the quicker test.
-fn aimed(mask: u64, value: u64, target: Target) -> Screen
-    ensures { result ≡ aimed mask value target }
+fn aimed(word0: Pattern, target: Target) -> Screen
+    ensures { result ≡ aimed word0 target }
 {
     let first = scopes::first_of(target);
     if words::part(target.tg, 1, 0) == 0 {
-        return Screen::Covering(mask, value, first);
+        return Screen::Covering {
+            word0,
+            address: first,
+        };
     }
     let more = scopes::length_of(target) - 1;
-    Screen::Reaching(mask, value, std::num::wrapping_add_u64(first, more), more)
+    Screen::Reaching {
+        word0,
+        last: std::num::wrapping_add_u64(first, more),
+        more,
+    }
 }
 
 // The 2^span streams that a stream is equal to above its lowest span bits.
@@ -41,14 +58,17 @@ fn of_block(stream: u64, span: u64) -> Screen
     ensures { result ≡ of_block stream span }
 {
     let size = words::power(span);
-    Screen::Streaming(0x1_0000_0000 - size, stream / size * size)
+    Screen::Streaming(under(0x1_0000_0000 - size, stream / size * size))
 }
 
 // CD rows of a stream.
 fn of_context(stream: u64) -> Screen
     ensures { result ≡ of_context stream }
 {
-    Screen::Named(places::KIND, places::CD, places::STREAM, stream)
+    Screen::Named(
+        under(places::KIND, places::CD),
+        under(places::STREAM, stream),
+    )
 }
 
 // The mark that 22 and 23 are about, in its place.
@@ -62,6 +82,7 @@ fn regime_at(f: Features) -> u64
 }
 
 // Every command has a case here, and none stands for others: a new one is not forgotten.
+#[tactic(auto, unfolding(crate::specs::ScopeScreens::screen_of))]
 pub fn screen_of(f: Features, c: Command) -> Screen
     ensures { result ≡ screen_of f c }
 {
@@ -72,23 +93,26 @@ pub fn screen_of(f: Features, c: Command) -> Screen
         Command::CfgiSteRange(stream, range) => of_block(stream, scopes::open_bits(range)),
         Command::CfgiCd(_, stream, _) => of_context(stream),
         Command::CfgiCdAll(stream) => of_context(stream),
-        Command::TlbiNhAll(vmid) => Screen::Marked(STAGE, STAGE1 + places::of_vmid(vmid)),
-        Command::TlbiNhAsid(vmid, asid) => Screen::Marked(
+        Command::TlbiNhAll(vmid) => Screen::Marked(stage(STAGE1, vmid)),
+        Command::TlbiNhAsid(vmid, asid) => Screen::Marked(under(
             STAGE_ASID,
             STAGE1 + places::of_vmid(vmid) + places::of_asid(asid),
-        ),
-        Command::TlbiNhVa(vmid, _, target) => aimed(STAGE, STAGE1 + places::of_vmid(vmid), target),
-        Command::TlbiNhVaa(vmid, target) => aimed(STAGE, STAGE1 + places::of_vmid(vmid), target),
-        Command::TlbiEl2All => Screen::Marked(places::KIND, STAGE1),
-        Command::TlbiEl2Asid(asid) => Screen::Marked(
+        )),
+        Command::TlbiNhVa(vmid, _, target) => aimed(stage(STAGE1, vmid), target),
+        Command::TlbiNhVaa(vmid, target) => aimed(stage(STAGE1, vmid), target),
+        Command::TlbiEl2All => Screen::Marked(under(places::KIND, STAGE1)),
+        Command::TlbiEl2Asid(asid) => Screen::Marked(under(
             OWN_ASID,
             STAGE1 + EL2_E2H + places::of_asid(asid),
-        ),
-        Command::TlbiEl2Va(_, target) => aimed(OWN, STAGE1 + regime_at(f), target),
-        Command::TlbiEl2Vaa(target) => aimed(OWN, STAGE1 + regime_at(f), target),
-        Command::TlbiS12Vmall(vmid) => Screen::Marked(EITHER_STAGE, STAGE1 + places::of_vmid(vmid)),
-        Command::TlbiS2Ipa(vmid, target) => aimed(STAGE, STAGE2 + places::of_vmid(vmid), target),
-        Command::TlbiNsnhAll => Screen::Marked(ANY_STAGE, STAGE1),
+        )),
+        Command::TlbiEl2Va(_, target) => aimed(under(OWN, STAGE1 + regime_at(f)), target),
+        Command::TlbiEl2Vaa(target) => aimed(under(OWN, STAGE1 + regime_at(f)), target),
+        Command::TlbiS12Vmall(vmid) => Screen::Marked(under(
+            EITHER_STAGE,
+            STAGE1 + places::of_vmid(vmid),
+        )),
+        Command::TlbiS2Ipa(vmid, target) => aimed(stage(STAGE2, vmid), target),
+        Command::TlbiNsnhAll => Screen::Marked(under(ANY_STAGE, STAGE1)),
         Command::Sync(_) => Screen::Nobody,
         Command::DptiAll => Screen::Nobody,
         Command::DptiPa(_, _, _) => Screen::Nobody,

@@ -7,12 +7,17 @@ use Rattle.rows.specs.declared.Row.{Row}
 use Rattle.rows.specs.Rows as rows
 use Rattle.image.specs.Image.{row_at}
 use Rattle.screens.specs.Places.{mask_of, stages_bits}
+use Rattle.screens.specs.declared.Pattern.{Pattern}
 use Rattle.screens.specs.declared.Screen.{Screen}
 use Rattle.screens.specs.declared.Screen.TheVariants.{Nobody, Marked, Named, Streaming, Covering, Reaching}
 
 -- how far a is ahead of b, around 2 ^ 64
 abbrev pub ahead : ℕ → ℕ → ℕ
 ahead a b = (a + 2 ^ 64 - b) % 2 ^ 64
+
+-- what a word must be under a mask
+abbrev pub under : ℕ → ℕ → Pattern
+under mask value = record { mask = mask; value = value }
 
 unfoldable pub marked : ℕ → ℕ → Row → Bool
 marked mask value row = bit_and row.w0 mask == value
@@ -49,11 +54,11 @@ reaching mask value last more row = touched last more row && marked mask value r
 
 abbrev pub passes : Screen → Row → Bool
 passes Nobody row = false
-passes (Marked mask value) row = marked mask value row
-passes (Named mask value other rest) row = named mask value other rest row
-passes (Streaming mask value) row = streaming mask value row
-passes (Covering mask value address) row = covering mask value address row
-passes (Reaching mask value last more) row = reaching mask value last more row
+passes (Marked word0) row = marked word0.mask word0.value row
+passes (Named word0 word1) row = named word0.mask word0.value word1.mask word1.value row
+passes (Streaming stream) row = streaming stream.mask stream.value row
+passes (Covering word0 address) row = covering word0.mask word0.value address row
+passes (Reaching word0 last more) row = reaching word0.mask word0.value last more row
 
 -- the lowest row from one on, and below another
 abbrev pub lowest_from : (ℕ → Bool) → ℕ → ℕ → Option ℕ

@@ -3,32 +3,61 @@
 #![tactic(auto)]
 
 pub mod answering;
-mod covering;
-mod marked;
-mod named;
 pub mod places;
-mod reaching;
-mod streaming;
+mod row_tests;
+mod scan;
 mod used;
 
-ghost use Rattle.std.specs.Prelude.{◌≡◌};
-ghost use Rattle.screens.specs.Screens.{ahead, next_of, Within};
+ghost use Rattle.std.specs.Prelude.{◌≡◌, ◌==◌, ℕ, ◌<◌, ◌≤◌, Bool, true, bit_and};
+ghost use Rattle.screens.specs.Screens.{ahead, under, lowest_from, next_of, passes_at, Within};
+
+use row_tests::{About, Marked, Named, Near, Streaming};
+use used::Used;
+
+// What a word must be under a mask.
+#[derive(Clone, Copy)]
+pub struct Pattern {
+    pub mask: u64,
+    pub value: u64,
+}
+
+// The value under the mask.
+pub fn under(mask: u64, value: u64) -> Pattern
+    ensures { result ≡ under mask value }
+{
+    Pattern { mask, value }
+}
+
+impl Pattern {
+    fn fits(self, word: u64) -> bool
+        ensures { result ≡ (bit_and word self.mask == self.value) }
+    {
+        word & self.mask == self.value
+    }
+}
 
 // What a row must be like.
 #[derive(Clone, Copy)]
 pub enum Screen {
     // No row is let through.
     Nobody,
-    // Mask and value of word 0.
-    Marked(u64, u64),
-    // Mask and value of word 0, mask and value of word 1.
-    Named(u64, u64, u64, u64),
-    // Mask and value of the stream: a used row of an STE or a CD.
-    Streaming(u64, u64),
-    // Mask and value of word 0, and an address that the row covers.
-    Covering(u64, u64, u64),
-    // Mask and value of word 0, and a byte and so many before it, of which the row covers one.
-    Reaching(u64, u64, u64, u64),
+    // By word 0.
+    Marked(Pattern),
+    // By words 0 and 1.
+    Named(Pattern, Pattern),
+    // By the stream: a used row of an STE or a CD.
+    Streaming(Pattern),
+    // By word 0, and an address that the row covers.
+    Covering {
+        word0: Pattern,
+        address: u64,
+    },
+    // By word 0, and a byte and so many before it, of which the row covers one.
+    Reaching {
+        word0: Pattern,
+        last: u64,
+        more: u64,
+    },
 }
 
 // How far a is ahead of b, around 2^64.
@@ -45,16 +74,35 @@ pub fn next(kept: &[u64], s: Screen, from: usize, to: usize) -> Option<usize>
 {
     match s {
         Screen::Nobody => None,
-        Screen::Marked(mask, value) => marked::next(kept, mask, value, from, to),
-        Screen::Named(mask, value, other, rest) => named::next(
-            kept, mask, value, other, rest, from, to,
-        ),
-        Screen::Streaming(mask, value) => streaming::next(kept, mask, value, from, to),
-        Screen::Covering(mask, value, address) => covering::next(
-            kept, mask, value, address, from, to,
-        ),
-        Screen::Reaching(mask, value, last, more) => reaching::next(
-            kept, mask, value, last, more, from, to,
-        ),
+        Screen::Marked(word0) => scan::next(kept, &Marked { word0 }, from, to),
+        Screen::Named(word0, word1) => scan::next(kept, &Named { word0, word1 }, from, to),
+        Screen::Streaming(stream) => scan::next(kept, &Streaming { stream }, from, to),
+        Screen::Covering { word0, address } => {
+            let near = Used {
+                test: Near { address },
+            };
+            used::next_of_both(kept, &near, &Marked { word0 }, from, to)
+        }
+        Screen::Reaching { word0, last, more } => {
+            let about = Used {
+                test: About { last, more },
+            };
+            used::next_of_both(kept, &about, &Marked { word0 }, from, to)
+        }
     }
+}
+
+// The lowest row from `from` on, and below `to`, that passes. Only rows that a screen lets through are asked.
+pub fn find<F: Fn(usize) -> bool>(
+    kept: &[u64],
+    s: Screen,
+    from: usize,
+    to: usize,
+    passes: F,
+) -> Option<usize>
+    requires rows { Within kept.now from to }
+    requires passes { (i : ℕ) → from ≤ i → i < to → F.pre passes i }
+    ensures { (p : ℕ → Bool) → ((i : ℕ) (b : Bool) → from ≤ i → i < to → F.post passes i b → b ≡ p i) → ((i : ℕ) → i < to → p i ≡ true → passes_at s kept.now i ≡ true) → result ≡ lowest_from p from to }
+{
+    words::lowest_among(from, to, |i| next(kept, s, i, to), passes)
 }

@@ -47,11 +47,24 @@ fn stage1(kept: &[u64], t: Transaction, ste: Row, a: Access) -> Result<Access, M
     if !uses_stage1(p.config) {
         return Ok(a);
     }
-    let Some(cd) = lookups::look(kept, Wanted::Cd(t.stream, t.substream)) else {
+    let Some(cd) = lookups::look(
+        kept,
+        Wanted::Cd {
+            stream: t.stream,
+            substream: t.substream,
+        },
+    ) else {
         return Err(Miss::Cd);
     };
     let c = rows::parts_of(cd);
-    let Some(row) = lookups::look(kept, Wanted::Stage1(p.vmid, c.asid, a.address)) else {
+    let Some(row) = lookups::look(
+        kept,
+        Wanted::Stage1 {
+            vmid: p.vmid,
+            asid: c.asid,
+            address: a.address,
+        },
+    ) else {
         return Err(Miss::Stage1);
     };
     Ok(Access {
@@ -68,7 +81,13 @@ fn stage2(kept: &[u64], ste: Row, a: Access) -> Result<Access, Miss>
     if !uses_stage2(p.config) {
         return Ok(a);
     }
-    let Some(row) = lookups::look(kept, Wanted::Stage2(p.vmid, a.address)) else {
+    let Some(row) = lookups::look(
+        kept,
+        Wanted::Stage2 {
+            vmid: p.vmid,
+            address: a.address,
+        },
+    ) else {
         return Err(Miss::Stage2);
     };
     let b = rows::attributes_of(row);
@@ -104,7 +123,7 @@ pub fn translated(kept: &[u64], t: Transaction) -> Outcome
     requires { Ready kept.now × Formed t }
     ensures { result ≡ translation kept.now t }
 {
-    let Some(ste) = lookups::look(kept, Wanted::Ste(t.stream)) else {
+    let Some(ste) = lookups::look(kept, Wanted::Ste { stream: t.stream }) else {
         return Outcome::Missed(Miss::Ste);
     };
     let p = rows::parts_of(ste);
