@@ -13,7 +13,7 @@ ghost use Rattle.event_calls.specs.Calls.{write_stores, drop_stores, Stores, wri
 use events::Record;
 use stores::Store;
 
-// How a write ends.
+// How a write ends: C has a number for each, so it is no Result.
 #[derive(Clone, Copy)]
 pub enum WriteEnd {
     Stored,

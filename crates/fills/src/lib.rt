@@ -10,7 +10,7 @@ ghost use Rattle.fills.specs.Fills.{fill_stores, fit, report_of, fill};
 use rows::Row;
 use stores::Store;
 
-// How a fill ends.
+// How a fill ends: C has a number for each, so it is no Result.
 #[derive(Clone, Copy)]
 pub enum FillEnd {
     Filled,
@@ -43,6 +43,7 @@ impl From<image::Refusal> for FillRefusal {
 }
 
 // Whether a row may hold these words: well formed, and not empty.
+#[tactic(auto, unfolding(crate::specs::Fills::fit))]
 fn is_fit(words: Row) -> bool
     ensures { result ≡ fit words }
 {

@@ -17,7 +17,9 @@ pub enum Refusal {
     BadRow(usize),
 }
 
-// The four words of row i.
+// The four words of row i. It and `is_bad` have likes in `regions`: rows of other words, places and rules share no line but the search,
+// and a trait of a row with its law would be longer than the two of them.
+#[tactic(auto, unfolding(crate::specs::Image::row_at))]
 pub fn row_at(kept: &[u64], i: usize) -> Row
     requires { 4 * i + 5 ≤ length kept.now }
     ensures { result ≡ row_at kept.now i }
@@ -31,6 +33,7 @@ pub fn row_at(kept: &[u64], i: usize) -> Row
     }
 }
 
+#[tactic(auto, unfolding(crate::specs::Image::is_bad))]
 fn is_bad(kept: &[u64], i: usize) -> bool
     requires { 4 * i + 5 ≤ length kept.now }
     ensures { result ≡ is_bad kept.now i }
@@ -38,7 +41,7 @@ fn is_bad(kept: &[u64], i: usize) -> bool
     !row_forms::well_formed(row_at(kept, i))
 }
 
-// The number of rows, or refusal 1, 2 or 3.
+// The number of rows, or refusal 1, 2 or 3. The checks of `regions` and `events` ask other things in another order.
 pub fn check(kept: &[u64]) -> Result<usize, Refusal>
     ensures { result ≡ check kept.now }
 {
@@ -61,6 +64,7 @@ pub fn check(kept: &[u64]) -> Result<usize, Refusal>
     }
 }
 
+#[tactic(auto, unfolding(crate::specs::Image::is_used, crate::specs::Image::row_at))]
 fn is_used(kept: &[u64], i: usize) -> bool
     requires { 4 * i + 5 ≤ length kept.now }
     ensures { result ≡ is_used kept.now i }

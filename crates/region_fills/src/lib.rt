@@ -37,6 +37,7 @@ impl From<regions::Refusal> for FillRefusal {
 }
 
 // Whether a row may hold these words: well formed, and not empty.
+#[tactic(auto, unfolding(crate::specs::Fills::fit))]
 fn is_fit(words: Region) -> bool
     ensures { result ≡ fit words }
 {

@@ -29,6 +29,7 @@ pub enum Refusal {
 }
 
 // The two words of row i.
+#[tactic(auto, unfolding(crate::specs::Table::row_at))]
 pub fn row_at(table: &[u64], i: usize) -> Region
     requires { 2 * i + 2 ≤ length table.now }
     ensures { result ≡ row_at table.now i }
@@ -40,6 +41,7 @@ pub fn row_at(table: &[u64], i: usize) -> Region
     }
 }
 
+#[tactic(auto, unfolding(crate::specs::Table::is_bad))]
 fn is_bad(table: &[u64], i: usize) -> bool
     requires { 2 * i + 2 ≤ length table.now }
     ensures { result ≡ is_bad table.now i }

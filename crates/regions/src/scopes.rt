@@ -25,6 +25,7 @@ pub fn address_of(page: u64) -> u64
 }
 
 // Whether 73 can remove a row at all.
+#[tactic(auto, unfolding(crate::specs::Scopes::names_region))]
 pub fn names_region(page: u64, size: u64) -> bool
     ensures { result ≡ names_region page size }
 {
@@ -52,6 +53,7 @@ fn spared(row: Region, leaf: bool) -> bool
 }
 
 // Whether 70 removes a row.
+#[tactic(auto, unfolding(crate::specs::Scopes::in_all))]
 pub fn in_all(row: Region) -> bool
     ensures { result ≡ in_all row }
 {
@@ -59,7 +61,7 @@ pub fn in_all(row: Region) -> bool
 }
 
 // Whether 73 removes a row, by the first byte and the length that its fields give, so that these need not be worked out for each
-// row. Most rows begin elsewhere, so that this is asked first.
+// row. Most rows begin elsewhere, so that this is asked first. Numbers and no struct of them: docs/PROMISES.md names the function.
 pub fn in_region_of(row: Region, first: u64, length: u64, page: u64, size: u64, leaf: bool) -> bool
     requires { (first ≡ address_of page) × (length ≡ bytes (size_of size)) }
     ensures { result ≡ in_region row page size leaf }
