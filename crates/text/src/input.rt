@@ -2,6 +2,7 @@
 // read a byte at a time, so that there may be as many as one likes.
 ghost use Rattle.std.specs.Prelude.{◌<◌, ◌≤◌, IfOk, length};
 
+use crate::hex::digit;
 use crate::output::say;
 use std::io;
 use std::io::{Read, Write};
@@ -29,14 +30,6 @@ pub fn label(input: &mut impl Read, out: &mut impl Write, said: bool) -> io::Res
         say(&mut *out, b": ")?;
     }
     Ok(())
-}
-
-// What a hexadecimal digit stands for: a letter is nine more than its low four bits.
-pub fn digit(b: u8) -> u64
-    ensures { result < 16 }
-{
-    let d = b as u64;
-    (d % 16 + d / 64 * 9) % 16
 }
 
 // Puts a word at i if there is room; answers where the next one goes.
