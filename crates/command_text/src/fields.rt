@@ -1,153 +1,188 @@
 // The fields of a legal command.
-use crate::names;
+use crate::names::RegionSize;
 use commands::{Command, Features, Target};
-use std::io;
-use std::io::Write;
-use text::{bit, one, say, three, two};
+use std::fmt;
 
-// The 4KB pages of the 64-bit space.
-const PAGES: u64 = 0x10_0000_0000_0000;
+// The fields that a command has, each behind a comma, and whether they keep it from removing anything.
+#[derive(Clone, Copy)]
+pub struct Fields {
+    pub command: Command,
+    pub features: Features,
+}
 
-// Says the fields that the command has, each behind a comma, and whether they keep it from removing anything.
-pub fn details(out: &mut impl Write, f: Features, c: Command) -> io::Result<()> {
-    match c {
-        Command::PrefetchConfig => {}
-        Command::PrefetchAddr => {}
-        Command::CfgiSte(s, l) => two(&mut *out, b", stream 0x$, Leaf #", s, bit(l))?,
-        Command::CfgiSteRange(s, r) => block(&mut *out, s, r)?,
-        Command::CfgiCd(u, s, l) => three(
-            &mut *out,
-            b", stream 0x$, substream 0x$, Leaf #",
-            s,
-            u,
-            bit(l),
-        )?,
-        Command::CfgiCdAll(s) => one(&mut *out, b", stream 0x$", s)?,
-        Command::TlbiNhAll(v) => vmid(&mut *out, v)?,
-        Command::TlbiNhAsid(v, a) => vmid_asid(&mut *out, v, a)?,
-        Command::TlbiNhVa(v, a, t) => by_both(&mut *out, v, a, t)?,
-        Command::TlbiNhVaa(v, t) => by_vmid(&mut *out, v, t)?,
-        Command::TlbiEl2All => {}
-        Command::TlbiEl2Asid(a) => asid(&mut *out, a)?,
-        Command::TlbiEl2Va(a, t) => by_asid(&mut *out, a, t)?,
-        Command::TlbiEl2Vaa(t) => target(&mut *out, t)?,
-        Command::TlbiS12Vmall(v) => vmid(&mut *out, v)?,
-        Command::TlbiS2Ipa(v, t) => by_vmid(&mut *out, v, t)?,
-        Command::TlbiNsnhAll => {}
-        Command::Sync(cs) => signal(&mut *out, cs)?,
-        Command::DptiAll => {}
-        Command::DptiPa(p, s, l) => region(&mut *out, p, s, l)?,
+impl fmt::Display for Fields {
+    fn fmt<W: fmt::Write>(&self, f: &mut fmt::Formatter<W>) -> fmt::Result {
+        named(self.command, f)?;
+        if scopes::invalidates(self.command)
+            & scopes::idle(self.features, self.command)
+            & !region_scopes::is_regional(self.command)
+        {
+            f.write_str(
+                "; it removes nothing, since its VMID or ASID has more bits than the features allow",
+            )?;
+        }
+        Ok(())
     }
-    if scopes::invalidates(c) & scopes::idle(f, c) & !region_scopes::is_regional(c) {
-        say(
-            &mut *out,
-            b"; it removes nothing, since its VMID or ASID has more bits than the features allow",
-        )?;
+}
+
+fn named<W: fmt::Write>(command: Command, f: &mut fmt::Formatter<W>) -> fmt::Result {
+    match command {
+        Command::PrefetchConfig
+        | Command::PrefetchAddr
+        | Command::TlbiEl2All
+        | Command::TlbiNsnhAll
+        | Command::DptiAll => Ok(()),
+        Command::CfgiSte(stream, leaf) => write!(f, ", stream 0x{stream:x}{}", Leaf(leaf)),
+        Command::CfgiSteRange(stream, range) => write!(f, "{}", Streams { stream, range }),
+        Command::CfgiCd(substream, stream, leaf) => write!(
+            f,
+            ", stream 0x{stream:x}, substream 0x{substream:x}{}",
+            Leaf(leaf)
+        ),
+        Command::CfgiCdAll(stream) => write!(f, ", stream 0x{stream:x}"),
+        Command::TlbiNhAll(vmid) | Command::TlbiS12Vmall(vmid) => write!(f, "{}", Vmid(vmid)),
+        Command::TlbiNhAsid(vmid, asid) => write!(f, "{}{}", Vmid(vmid), Asid(asid)),
+        Command::TlbiNhVa(vmid, asid, target) => {
+            write!(f, "{}{}{}", Vmid(vmid), Asid(asid), Aim(target))
+        }
+        Command::TlbiNhVaa(vmid, target) | Command::TlbiS2Ipa(vmid, target) => {
+            write!(f, "{}{}", Vmid(vmid), Aim(target))
+        }
+        Command::TlbiEl2Asid(asid) => write!(f, "{}", Asid(asid)),
+        Command::TlbiEl2Va(asid, target) => write!(f, "{}{}", Asid(asid), Aim(target)),
+        Command::TlbiEl2Vaa(target) => write!(f, "{}", Aim(target)),
+        Command::Sync(cs) => write!(f, "{}", Signal(cs)),
+        Command::DptiPa(page, size, leaf) => write!(f, "{}", Region { page, size, leaf }),
     }
-    Ok(())
+}
+
+#[derive(Clone, Copy)]
+struct Leaf(bool);
+
+impl fmt::Display for Leaf {
+    fn fmt<W: fmt::Write>(&self, f: &mut fmt::Formatter<W>) -> fmt::Result {
+        write!(f, ", Leaf {}", u8::from(self.0))
+    }
+}
+
+#[derive(Clone, Copy)]
+struct Vmid(u64);
+
+impl fmt::Display for Vmid {
+    fn fmt<W: fmt::Write>(&self, f: &mut fmt::Formatter<W>) -> fmt::Result {
+        write!(f, ", VMID 0x{:x}", self.0)
+    }
+}
+
+#[derive(Clone, Copy)]
+struct Asid(u64);
+
+impl fmt::Display for Asid {
+    fn fmt<W: fmt::Write>(&self, f: &mut fmt::Formatter<W>) -> fmt::Result {
+        write!(f, ", ASID 0x{:x}", self.0)
+    }
 }
 
 // The streams of a block, of which the lowest bits are open.
-fn block(out: &mut impl Write, stream: u64, range: u64) -> io::Result<()> {
-    let open = scopes::open_bits(range);
-    let first = stream >> open << open;
-    let last = std::num::wrapping_add_u64(first, words::power(open) - 1);
-    three(
-        &mut *out,
-        b", streams 0x$ to 0x$ (Range #)",
-        first,
-        last,
-        range,
-    )
+#[derive(Clone, Copy)]
+struct Streams {
+    stream: u64,
+    range: u64,
 }
 
-fn vmid(out: &mut impl Write, v: u64) -> io::Result<()> {
-    one(&mut *out, b", VMID 0x$", v)
-}
-
-fn asid(out: &mut impl Write, a: u64) -> io::Result<()> {
-    one(&mut *out, b", ASID 0x$", a)
-}
-
-fn vmid_asid(out: &mut impl Write, v: u64, a: u64) -> io::Result<()> {
-    vmid(&mut *out, v)?;
-    asid(&mut *out, a)
-}
-
-fn by_vmid(out: &mut impl Write, v: u64, t: Target) -> io::Result<()> {
-    vmid(&mut *out, v)?;
-    target(&mut *out, t)
-}
-
-fn by_asid(out: &mut impl Write, a: u64, t: Target) -> io::Result<()> {
-    asid(&mut *out, a)?;
-    target(&mut *out, t)
-}
-
-fn by_both(out: &mut impl Write, v: u64, a: u64, t: Target) -> io::Result<()> {
-    vmid_asid(&mut *out, v, a)?;
-    target(&mut *out, t)
-}
-
-// A single address, or a range of them, which ends with the 64-bit space at the latest.
-fn target(out: &mut impl Write, t: Target) -> io::Result<()> {
-    let first = scopes::first_of(t);
-    let more = scopes::length_of(t) - 1;
-    if t.tg == 0 {
-        one(&mut *out, b", address 0x$", first)?;
-    } else {
-        two(
-            &mut *out,
-            b", addresses 0x$ to 0x$",
-            first,
-            last(first, more),
-        )?;
-        hints(&mut *out, t)?;
+impl fmt::Display for Streams {
+    fn fmt<W: fmt::Write>(&self, f: &mut fmt::Formatter<W>) -> fmt::Result {
+        let open = scopes::open_bits(self.range);
+        let first = self.stream >> open << open;
+        let last = first.wrapping_add(words::power(open) - 1);
+        write!(
+            f,
+            ", streams 0x{first:x} to 0x{last:x} (Range {})",
+            self.range
+        )
     }
-    one(&mut *out, b", Leaf #", bit(t.leaf))
 }
 
-fn last(first: u64, more: u64) -> u64 {
-    if u64::MAX - first < more {
-        return u64::MAX;
+// What a command by address aims at: a single address, or a range of them, which ends with the 64-bit space at the latest.
+#[derive(Clone, Copy)]
+struct Aim(Target);
+
+impl fmt::Display for Aim {
+    fn fmt<W: fmt::Write>(&self, f: &mut fmt::Formatter<W>) -> fmt::Result {
+        let target = self.0;
+        let first = scopes::first_of(target);
+        if target.tg == 0 {
+            write!(f, ", address 0x{first:x}")?;
+        } else {
+            let last = first.saturating_add(scopes::length_of(target) - 1);
+            write!(f, ", addresses 0x{first:x} to 0x{last:x}")?;
+            write!(f, "{}", Hints(target))?;
+        }
+        write!(f, "{}", Leaf(target.leaf))
     }
-    first + more
 }
 
-fn hints(out: &mut impl Write, t: Target) -> io::Result<()> {
-    three(
-        &mut *out,
-        b" (TG {none|4KB|16KB|64KB}, NUM #, SCALE #",
-        t.tg,
-        t.num,
-        t.scale,
-    )?;
-    two(&mut *out, b", TTL #{|, TTL128})", t.ttl, bit(t.ttl128))
+// The granule of a range, its length as it stands, and the hints.
+#[derive(Clone, Copy)]
+struct Hints(Target);
+
+impl fmt::Display for Hints {
+    fn fmt<W: fmt::Write>(&self, f: &mut fmt::Formatter<W>) -> fmt::Result {
+        let target = self.0;
+        let granule = match target.tg {
+            0 => "none",
+            1 => "4KB",
+            2 => "16KB",
+            _ => "64KB",
+        };
+        let ttl128 = if target.ttl128 { ", TTL128" } else { "" };
+        write!(
+            f,
+            " (TG {granule}, NUM {}, SCALE {}, TTL {}{ttl128})",
+            target.num, target.scale, target.ttl
+        )
+    }
 }
 
-fn signal(out: &mut impl Write, cs: u64) -> io::Result<()> {
-    two(
-        &mut *out,
-        b", CS # ({no signal|an interrupt|an event, which is not signalled here|ill formed})",
-        cs,
-        cs,
-    )
+// What a CMD_SYNC asks for when it is done.
+#[derive(Clone, Copy)]
+struct Signal(u64);
+
+impl fmt::Display for Signal {
+    fn fmt<W: fmt::Write>(&self, f: &mut fmt::Formatter<W>) -> fmt::Result {
+        let cs = self.0;
+        let asked = match cs {
+            0 => "no signal",
+            1 => "an interrupt",
+            2 => "an event, which is not signalled here",
+            _ => "ill formed",
+        };
+        write!(f, ", CS {cs} ({asked})")
+    }
 }
 
 // A region of the device permission table: an address and a size.
-fn region(out: &mut impl Write, page: u64, size: u64, leaf: bool) -> io::Result<()> {
-    one(&mut *out, b", address 0x$, size ", address_of(page))?;
-    names::size(&mut *out, size)?;
-    one(&mut *out, b", Leaf #", bit(leaf))?;
-    if !regions::names_region(page, size) {
-        say(
-            &mut *out,
-            b"; it removes nothing, since there is no region of this size at this address",
-        )?;
-    }
-    Ok(())
+#[derive(Clone, Copy)]
+struct Region {
+    page: u64,
+    size: u64,
+    leaf: bool,
 }
 
-fn address_of(page: u64) -> u64 {
-    page % PAGES * 0x1000
+impl fmt::Display for Region {
+    fn fmt<W: fmt::Write>(&self, f: &mut fmt::Formatter<W>) -> fmt::Result {
+        write!(
+            f,
+            ", address 0x{:x}, size {}{}",
+            self.page << 12,
+            RegionSize(self.size),
+            Leaf(self.leaf)
+        )?;
+        if !regions::names_region(self.page, self.size) {
+            f.write_str(
+                "; it removes nothing, since there is no region of this size at this address",
+            )?;
+        }
+        Ok(())
+    }
 }

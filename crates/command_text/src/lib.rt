@@ -5,6 +5,15 @@ mod fields;
 mod names;
 mod reasons;
 
-pub use fields::details;
-pub use names::{name, size};
-pub use reasons::reason;
+use commands::Coded;
+pub use fields::Fields;
+pub use names::{Code, RegionSize};
+pub use reasons::{Illegal, is_reserved_bit};
+
+// The command in a slot of a queue.
+pub fn coded_in(slot: &[u8; 16]) -> Coded {
+    Coded {
+        lo: words::word_at(slot, 0),
+        hi: words::word_at(slot, 8),
+    }
+}

@@ -1,47 +1,56 @@
 // Names: of codes, as Arm has them, and of sizes.
-use std::io;
-use std::io::Write;
-use text::say;
+use std::fmt;
 
-// How many sizes of regions there are.
-const SIZES: u64 = 10;
+// The code of a command, by its name, or as a number if this unit does not know it.
+#[derive(Clone, Copy)]
+pub struct Code(pub u64);
 
-// Says the name of a code, or the number of one that this unit does not know.
-pub fn name(out: &mut impl Write, code: u64) -> io::Result<()> {
-    match code {
-        0x01 => say(&mut *out, b"CMD_PREFETCH_CONFIG"),
-        0x02 => say(&mut *out, b"CMD_PREFETCH_ADDR"),
-        0x03 => say(&mut *out, b"CMD_CFGI_STE"),
-        0x04 => say(&mut *out, b"CMD_CFGI_STE_RANGE"),
-        0x05 => say(&mut *out, b"CMD_CFGI_CD"),
-        0x06 => say(&mut *out, b"CMD_CFGI_CD_ALL"),
-        0x10 => say(&mut *out, b"CMD_TLBI_NH_ALL"),
-        0x11 => say(&mut *out, b"CMD_TLBI_NH_ASID"),
-        0x12 => say(&mut *out, b"CMD_TLBI_NH_VA"),
-        0x13 => say(&mut *out, b"CMD_TLBI_NH_VAA"),
-        0x20 => say(&mut *out, b"CMD_TLBI_EL2_ALL"),
-        0x21 => say(&mut *out, b"CMD_TLBI_EL2_ASID"),
-        0x22 => say(&mut *out, b"CMD_TLBI_EL2_VA"),
-        0x23 => say(&mut *out, b"CMD_TLBI_EL2_VAA"),
-        0x28 => say(&mut *out, b"CMD_TLBI_S12_VMALL"),
-        0x2A => say(&mut *out, b"CMD_TLBI_S2_IPA"),
-        0x30 => say(&mut *out, b"CMD_TLBI_NSNH_ALL"),
-        0x46 => say(&mut *out, b"CMD_SYNC"),
-        0x70 => say(&mut *out, b"CMD_DPTI_ALL"),
-        0x73 => say(&mut *out, b"CMD_DPTI_PA"),
-        _ => text::one(&mut *out, b"code 0x$", code),
+impl fmt::Display for Code {
+    fn fmt<W: fmt::Write>(&self, f: &mut fmt::Formatter<W>) -> fmt::Result {
+        f.write_str(match self.0 {
+            0x01 => "CMD_PREFETCH_CONFIG",
+            0x02 => "CMD_PREFETCH_ADDR",
+            0x03 => "CMD_CFGI_STE",
+            0x04 => "CMD_CFGI_STE_RANGE",
+            0x05 => "CMD_CFGI_CD",
+            0x06 => "CMD_CFGI_CD_ALL",
+            0x10 => "CMD_TLBI_NH_ALL",
+            0x11 => "CMD_TLBI_NH_ASID",
+            0x12 => "CMD_TLBI_NH_VA",
+            0x13 => "CMD_TLBI_NH_VAA",
+            0x20 => "CMD_TLBI_EL2_ALL",
+            0x21 => "CMD_TLBI_EL2_ASID",
+            0x22 => "CMD_TLBI_EL2_VA",
+            0x23 => "CMD_TLBI_EL2_VAA",
+            0x28 => "CMD_TLBI_S12_VMALL",
+            0x2A => "CMD_TLBI_S2_IPA",
+            0x30 => "CMD_TLBI_NSNH_ALL",
+            0x46 => "CMD_SYNC",
+            0x70 => "CMD_DPTI_ALL",
+            0x73 => "CMD_DPTI_PA",
+            unknown => return write!(f, "code 0x{unknown:x}"),
+        })
     }
 }
 
-// Says how large a region of the device permission table is, by the code of its size.
-pub fn size(out: &mut impl Write, code: u64) -> io::Result<()> {
-    if code < SIZES {
-        text::one(
-            &mut *out,
-            b"{4KB|16KB|64KB|2MB|32MB|512MB|1GB|16GB|64GB|512GB}",
-            code,
-        )
-    } else {
-        text::one(&mut *out, b"Reserved (#)", code)
+// How large a region of the device permission table is, by the code of its size.
+#[derive(Clone, Copy)]
+pub struct RegionSize(pub u64);
+
+impl fmt::Display for RegionSize {
+    fn fmt<W: fmt::Write>(&self, f: &mut fmt::Formatter<W>) -> fmt::Result {
+        f.write_str(match self.0 {
+            0 => "4KB",
+            1 => "16KB",
+            2 => "64KB",
+            3 => "2MB",
+            4 => "32MB",
+            5 => "512MB",
+            6 => "1GB",
+            7 => "16GB",
+            8 => "64GB",
+            9 => "512GB",
+            reserved => return write!(f, "Reserved ({reserved})"),
+        })
     }
 }

@@ -2,52 +2,49 @@
 // Standard input has the features as two hexadecimal digits and the line's end, then the bytes of the queue.
 #![tactic(auto)]
 
-ghost use Rattle.std.specs.Prelude.{◌+◌, ◌*◌, ◌≤◌, length};
-
-use commands::{Decoded, Features};
+use command_text::Illegal;
+use commands::{Decoded, Features, fields};
 use std::io;
-use std::io::{BufReader, BufWriter, Read, Write};
-use text::say;
+use std::io::{BufWriter, Read, Write};
+
+// The bytes of the first line, and the most of a queue that are looked at.
+const LINE: usize = 3;
+
+const MOST: u64 = 65536;
 
 fn main(rt: HostRuntime) -> io::Result<()> {
-    let mut input = BufReader::new(rt.alloc(), rt.reader())?;
     let mut out = BufWriter::new(rt.alloc(), io::writer(&rt))?;
-    let high = text::digit(text::next(&mut input)?);
-    let f = commands::features_of(16 * high + text::digit(text::next(&mut input)?));
-    text::next(&mut input)?;
-    let mut bytes = [0u8; 65536];
-    let n = text::read_full(&mut input, &mut bytes)?;
-    queue(&mut out, &bytes[..n], f)?;
-    if n % 16 != 0 {
-        say(&mut out, b"the last command is not whole\n")?;
-    }
+    let mut input = Vec::new(rt.alloc());
+    rt.reader()
+        .take(LINE as u64 + MOST)
+        .read_to_end(&mut input)?;
+    let (line, queue) = input.split_at(input.len().min(LINE));
+    told(&mut out, queue, features_in(line))?;
     out.flush()
 }
 
-fn queue(out: &mut impl Write, bytes: &[u8], f: Features) -> io::Result<()> {
-    let slots = bytes.len() / 16;
-    let mut slot = 0;
-    while slot < slots {
-        command(&mut *out, bytes, f, slot)?;
-        slot += 1;
-    }
-    Ok(())
+// A digit that is missing is 0.
+fn features_in(line: &[u8]) -> Features {
+    let digit = |i: usize| line.get(i).map_or(0, |&b| text::digit(b));
+    commands::features_of(16 * digit(0) + digit(1))
 }
 
-fn command(out: &mut impl Write, bytes: &[u8], f: Features, slot: usize) -> io::Result<()>
-    requires { 16 * slot + 16 ≤ length bytes.now }
-{
-    if let Decoded::Illegal(why) = commands::decode_at(f, bytes, slot) {
-        let lo = words::word_at(bytes, 16 * slot);
-        let hi = words::word_at(bytes, 16 * slot + 8);
-        text::two(
-            &mut *out,
-            b"slot #, code $: ",
-            slot as u64,
-            words::part(lo, 7, 0),
-        )?;
-        command_text::reason(&mut *out, why, f, lo, hi)?;
-        say(&mut *out, b"\n")?;
+fn told(out: &mut impl Write, queue: &[u8], features: Features) -> io::Result<()> {
+    let (slots, rest) = queue.as_chunks::<16>();
+    for (slot, bytes) in slots.iter().enumerate() {
+        let coded = command_text::coded_in(bytes);
+        if let Decoded::Illegal(reason) = commands::decode(features, coded.lo, coded.hi) {
+            let code = fields::CODE.of(coded);
+            let illegal = Illegal {
+                reason,
+                coded,
+                features,
+            };
+            writeln!(out, "slot {slot}, code {code:x}: {illegal}")?;
+        }
+    }
+    if !rest.is_empty() {
+        writeln!(out, "the last command is not whole")?;
     }
     Ok(())
 }

@@ -1,16 +1,24 @@
-// The features as bits, as `commands::features_of` reads them.
-pub const S1P: u64 = 1;
+// What a unit has whose commands are tried. E2H is a setting, and off.
+use commands::Features;
 
-pub const S2P: u64 = 2;
+pub const NONE: Features = Features {
+    s1p: false,
+    s2p: false,
+    asid16: false,
+    vmid16: false,
+    hyp: false,
+    e2h: false,
+    ril: false,
+    dpt: false,
+};
 
-pub const ASID16: u64 = 4;
-
-pub const VMID16: u64 = 8;
-
-pub const HYP: u64 = 16;
-
-pub const RIL: u64 = 32;
-
-pub const DPT: u64 = 64;
-
-pub const ALL: u64 = 127;
+pub const ALL: Features = Features {
+    s1p: true,
+    s2p: true,
+    asid16: true,
+    vmid16: true,
+    hyp: true,
+    e2h: false,
+    ril: true,
+    dpt: true,
+};

@@ -4,14 +4,13 @@
 mod features;
 mod formats;
 mod guests;
-mod show;
 
 use std::io;
 use std::io::{BufWriter, Write};
 
 fn main(rt: HostRuntime) -> io::Result<()> {
     let mut out = BufWriter::new(rt.alloc(), io::writer(&rt))?;
-    formats::all(&mut out)?;
-    guests::all(&rt, &mut out)?;
+    formats::told(&mut out)?;
+    guests::told(&rt, &mut out)?;
     out.flush()
 }
