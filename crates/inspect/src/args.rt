@@ -1,160 +1,109 @@
-// The command line: KEPT, then options, each with what it says.
-ghost use Rattle.std.specs.Prelude.{◌≤◌, length};
-
+// The command line: KEPT, then options, each with what it says. `clap` would tell a wrong one in words of its own, and end with
+// another status: here usage is told and the status is 0.
+use commands::Features;
+use std::alloc::Global;
 use std::env::FillError;
 use std::io;
 use std::io::Write;
 use std::rt::Env;
-use text::{say, told, two};
 
 // S1P and ASID16.
 const ASSUMED: u64 = 0x05;
 
 // The most bytes of an argument that are read, which hold any path.
-pub const ROOM: usize = 4096;
+const ROOM: usize = 4096;
 
-// KEPT, the first option, and how far it is from an option to the next.
-const FIRST: usize = 1;
+// The features, each with its bit.
+const FEATURES: [(u64, &str); 8] = [
+    (0x01, "S1P"),
+    (0x02, "S2P"),
+    (0x04, "ASID16"),
+    (0x08, "VMID16"),
+    (0x10, "Hyp"),
+    (0x20, "RIL"),
+    (0x40, "DPT"),
+    (0x80, "E2H"),
+];
 
-const OPTIONS: usize = 2;
-
-const STEP: usize = 2;
-
-// Where the files' names stand on the command line, 0 for one that is not given; and the features.
+// The names of the files, and the features as bits.
 #[derive(Clone, Copy)]
-pub struct Args {
-    pub kept: usize,
-    pub queue: usize,
-    pub table: usize,
-    pub events: usize,
-    pub features: u64,
-    pub assumed: bool,
-    pub wrong: bool,
+pub struct Args<'a> {
+    pub kept: &'a str,
+    pub queue: Option<&'a str>,
+    pub table: Option<&'a str>,
+    pub events: Option<&'a str>,
+    pub features: Option<u64>,
 }
 
-fn nothing(wrong: bool) -> Args {
-    Args {
-        kept: FIRST,
-        queue: 0,
-        table: 0,
-        events: 0,
-        features: ASSUMED,
-        assumed: true,
-        wrong: wrong,
-    }
-}
-
-pub fn given(rt: &impl Env) -> Args {
-    let n = count(rt);
-    let mut a = nothing((n % STEP != 0) | begins_with_dash(rt));
-    let mut i = OPTIONS;
-    while i < n {
-        a = option(rt, a, i);
-        if usize::MAX - i < STEP {
-            break;
-        }
-        i += STEP;
-    }
-    a
-}
-
-// How many arguments there are, of which the first is the program's name.
-fn count(rt: &impl Env) -> usize {
+// The words of the command line. One that is no UTF-8 is read all the same, which `env::args` refuses; one that has no room is
+// read as empty, which is no option and no file's name.
+pub fn words(rt: &impl Env, alloc: Global) -> io::Result<Vec<String>> {
+    let mut words = Vec::new(alloc);
     let mut text = [0u8; ROOM];
     for i in 0..usize::MAX {
-        if let Err(FillError::NotPresent) = rt.arg(i, &mut text) {
-            return i;
+        let length = match rt.arg(i, &mut text) {
+            Ok(length) => length,
+            Err(FillError::TooLong) => 0,
+            Err(FillError::NotPresent) => break,
+        };
+        words.push(String::from_utf8_lossy(alloc, &text[..length])?)?;
+    }
+    Ok(words)
+}
+
+impl<'a> Args<'a> {
+    // None of words that are not as the usage says.
+    pub fn of(words: &'a [String]) -> Option<Args<'a>> {
+        let [_, kept, options @ ..] = words else {
+            return None;
+        };
+        if kept.is_empty() | kept.starts_with('-') {
+            return None;
+        }
+        let mut args = Args {
+            kept: kept.as_str(),
+            queue: None,
+            table: None,
+            events: None,
+            features: None,
+        };
+        let (options, rest) = options.as_chunks::<2>();
+        for [option, value] in options {
+            match option.as_str() {
+                "--queue" => args.queue = Some(value.as_str()),
+                "--table" => args.table = Some(value.as_str()),
+                "--events" => args.events = Some(value.as_str()),
+                "--features" => args.features = Some(features_in(value.as_str())?),
+                _ => return None,
+            }
+        }
+        if !rest.is_empty() {
+            return None;
+        }
+        Some(args)
+    }
+}
+
+// Two hexadecimal digits. A sign is none, though `from_str_radix` takes one.
+fn features_in(text: &str) -> Option<u64> {
+    if (text.len() != 2) | !text.bytes().all(|b| b.is_ascii_hexdigit()) {
+        return None;
+    }
+    u64::from_str_radix(text, 16).ok()
+}
+
+// Tells the features as they are given, and by name, and answers what they are.
+pub fn features_told(out: &mut impl Write, given: Option<u64>) -> io::Result<Features> {
+    let bits = given.unwrap_or(ASSUMED);
+    write!(out, "Features {bits:02x}:")?;
+    for (bit, name) in FEATURES {
+        if bits & bit != 0 {
+            write!(out, " {name}")?;
         }
     }
-    usize::MAX
-}
-
-// Puts argument i at the start of the bytes, and answers how many it has: none where it is missing or has no room.
-pub fn arg(rt: &impl Env, i: usize, text: &mut [u8]) -> usize
-    ensures { result ≤ length text.new }
-{
-    match rt.arg(i, &mut *text) {
-        Ok(n) => n,
-        Err(_) => 0,
+    if given.is_none() {
+        write!(out, " (assumed, since none are given)")?;
     }
-}
-
-// Whether KEPT is missing, or is no name of a file but an option.
-fn begins_with_dash(rt: &impl Env) -> bool {
-    let mut text = [0u8; ROOM];
-    let n = arg(rt, FIRST, &mut text);
-    (n == 0) | (text[0] == b'-')
-}
-
-// Takes the option at place i; what it says stands behind it.
-fn option(rt: &impl Env, a: Args, i: usize) -> Args {
-    let mut text = [0u8; ROOM];
-    let n = arg(rt, i, &mut text);
-    let value = std::num::wrapping_add_usize(i, 1);
-    let mut b = a;
-    if same(&text[..n], b"--queue") {
-        b.queue = value;
-    } else if same(&text[..n], b"--table") {
-        b.table = value;
-    } else if same(&text[..n], b"--events") {
-        b.events = value;
-    } else if same(&text[..n], b"--features") {
-        return features(rt, a, value);
-    } else {
-        b.wrong = true;
-    }
-    b
-}
-
-// Two hexadecimal digits.
-fn features(rt: &impl Env, a: Args, i: usize) -> Args {
-    let mut text = [0u8; ROOM];
-    let n = arg(rt, i, &mut text);
-    let mut b = a;
-    b.features = 16 * text::digit(text[0]) + text::digit(text[1]);
-    b.assumed = false;
-    b.wrong = a.wrong | (n != 2) | !is_digit(text[0]) | !is_digit(text[1]);
-    b
-}
-
-fn is_digit(b: u8) -> bool {
-    ((b'0' <= b) & (b <= b'9')) | ((b'a' <= b) & (b <= b'f')) | ((b'A' <= b) & (b <= b'F'))
-}
-
-fn same(a: &[u8], b: &[u8]) -> bool {
-    if a.len() != b.len() {
-        return false;
-    }
-    let mut i = 0;
-    while i < a.len() {
-        if a[i] != b[i] {
-            return false;
-        }
-        i += 1;
-    }
-    true
-}
-
-// The features as they are given, and by name.
-pub fn features_told(out: &mut impl Write, a: Args) -> io::Result<()> {
-    let f = a.features;
-    two(&mut *out, b"Features $$:", f / 16 % 16, f % 16)?;
-    told(
-        &mut *out,
-        b"{| S1P}{| S2P}{| ASID16}{| VMID16}{| Hyp}{| RIL}{| DPT}{| E2H}",
-        [
-            f % 2,
-            f / 2 % 2,
-            f / 4 % 2,
-            f / 8 % 2,
-            f / 16 % 2,
-            f / 32 % 2,
-            f / 64 % 2,
-            f / 128 % 2,
-        ],
-    )?;
-    if a.assumed {
-        say(&mut *out, b" (assumed, since none are given)")?;
-    }
-    say(&mut *out, b"\n")
+    writeln!(out)?;
+    Ok(commands::features_of(bits))
 }

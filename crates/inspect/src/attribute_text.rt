@@ -1,9 +1,9 @@
-// Attributes, and what a stream overrides them by (document 01, The kept memory, and A transaction, step 2).
+// Attributes, and what a stream overrides them by (document 01, The kept memory, and A transaction, step 2). Their values are
+// numbers, as in the rows: what each is called is here alone.
 use attributes::{Attributes, Half, Overrides};
 use rows::Parts;
-use std::io;
 use std::io::Write;
-use text::{bit, one, say, told as said, two};
+use std::{fmt, io};
 
 // The MemAttrs below are Device types.
 const NORMAL: u64 = 4;
@@ -17,96 +17,121 @@ const WA: u64 = 2;
 
 const TR: u64 = 4;
 
-fn memory_type(out: &mut impl Write, m: u64) -> io::Result<()> {
-    if m < NORMAL {
-        one(
-            &mut *out,
-            b"{Device-nGnRnE|Device-nGnRE|Device-nGRE|Device-GRE}",
-            m,
-        )
-    } else {
-        two(
-            &mut *out,
-            b"Normal, outer {ill formed|NC|WT|WB}, inner {ill formed|NC|WT|WB}",
-            m / 4 % 4,
-            m % 4,
-        )
+#[derive(Clone, Copy)]
+struct MemAttr(u64);
+
+impl fmt::Display for MemAttr {
+    fn fmt<W: fmt::Write>(&self, f: &mut fmt::Formatter<W>) -> fmt::Result {
+        match self.0 {
+            0 => f.write_str("Device-nGnRnE"),
+            1 => f.write_str("Device-nGnRE"),
+            2 => f.write_str("Device-nGRE"),
+            3 => f.write_str("Device-GRE"),
+            m => write!(
+                f,
+                "Normal, outer {}, inner {}",
+                cacheability(m / NORMAL % 4),
+                cacheability(m % NORMAL)
+            ),
+        }
+    }
+}
+
+fn cacheability(half: u64) -> &'static str {
+    match half {
+        0 => "ill formed",
+        1 => "NC",
+        2 => "WT",
+        _ => "WB",
+    }
+}
+
+#[derive(Clone, Copy)]
+struct Sh(u64);
+
+impl fmt::Display for Sh {
+    fn fmt<W: fmt::Write>(&self, f: &mut fmt::Formatter<W>) -> fmt::Result {
+        f.write_str(match self.0 {
+            0 => "NSH",
+            1 => "SH 1, ill formed",
+            2 => "OSH",
+            _ => "ISH",
+        })
+    }
+}
+
+// The hints of a half.
+#[derive(Clone, Copy)]
+struct Hints(u64);
+
+impl fmt::Display for Hints {
+    fn fmt<W: fmt::Write>(&self, f: &mut fmt::Formatter<W>) -> fmt::Result {
+        if self.0 == 0 {
+            return f.write_str(" none");
+        }
+        for (bit, name) in [(RA, " RA"), (WA, " WA"), (TR, " TR")] {
+            if self.0 & bit != 0 {
+                f.write_str(name)?;
+            }
+        }
+        Ok(())
     }
 }
 
 // MemAttr and SH.
-pub fn attributes(out: &mut impl Write, a: Attributes) -> io::Result<()> {
-    say(&mut *out, b"    ")?;
-    memory_type(&mut *out, a.memattr)?;
-    one(&mut *out, b", {NSH|SH 1, ill formed|OSH|ISH}", a.sh)
+pub fn attributes_told(out: &mut impl Write, a: Attributes) -> io::Result<()> {
+    write!(out, "    {}, {}", MemAttr(a.memattr), Sh(a.sh))
 }
 
-pub fn hints(out: &mut impl Write, a: Attributes) -> io::Result<()> {
-    let i = Half::Inner.hints(a.hints);
-    let o = Half::Outer.hints(a.hints);
-    said(
-        &mut *out,
-        b", inner hints{| none}{| RA}{| WA}{| TR}, outer hints{| none}{| RA}{| WA}{| TR}",
-        [
-            bit(i == 0),
-            i / RA % 2,
-            i / WA % 2,
-            i / TR % 2,
-            bit(o == 0),
-            o / RA % 2,
-            o / WA % 2,
-            o / TR % 2,
-        ],
+pub fn hints_told(out: &mut impl Write, a: Attributes) -> io::Result<()> {
+    write!(
+        out,
+        ", inner hints{}, outer hints{}",
+        Hints(Half::Inner.hints(a.hints)),
+        Hints(Half::Outer.hints(a.hints))
     )
 }
 
 // What a last-level STE row makes of an access.
-pub fn overrides(out: &mut impl Write, o: Overrides, p: Parts) -> io::Result<()> {
-    one(&mut *out, b"    memory type (MTCFG #) ", o.mtcfg)?;
+pub fn overrides_told(out: &mut impl Write, o: Overrides, p: Parts) -> io::Result<()> {
+    write!(out, "    memory type (MTCFG {}) ", o.mtcfg)?;
     if o.mtcfg == 1 {
-        memory_type(&mut *out, o.memattr)?;
+        write!(out, "{}", MemAttr(o.memattr))?;
     } else {
-        say(&mut *out, b"as it comes")?;
+        write!(out, "as it comes")?;
     }
-    two(
-        &mut *out,
-        b"; shareability (SHCFG #) {NSH|as it comes|OSH|ISH}",
-        o.shcfg,
-        o.shcfg,
-    )?;
-    hints_made(&mut *out, o.alloccfg)?;
-    two(
-        &mut *out,
-        b"    reads (INSTCFG #) {as they come|as they come|are data|are instructions}",
-        p.instcfg,
-        p.instcfg,
-    )?;
-    two(
-        &mut *out,
-        b"; privilege (PRIVCFG #) {as it comes|as it comes|unprivileged|privileged}\n",
-        p.privcfg,
-        p.privcfg,
-    )
+    let shareability = match o.shcfg {
+        0 => "NSH",
+        1 => "as it comes",
+        2 => "OSH",
+        _ => "ISH",
+    };
+    write!(out, "; shareability (SHCFG {}) {shareability}", o.shcfg)?;
+    hints_made_told(&mut *out, o.alloccfg)?;
+    let reads = match p.instcfg {
+        2 => "are data",
+        3 => "are instructions",
+        _ => "as they come",
+    };
+    write!(out, "    reads (INSTCFG {}) {reads}", p.instcfg)?;
+    let privilege = match p.privcfg {
+        2 => "unprivileged",
+        3 => "privileged",
+        _ => "as it comes",
+    };
+    writeln!(out, "; privilege (PRIVCFG {}) {privilege}", p.privcfg)
 }
 
-fn hints_made(out: &mut impl Write, alloccfg: u64) -> io::Result<()> {
-    one(&mut *out, b"; hints (ALLOCCFG 0x$) ", alloccfg)?;
-    if alloccfg / ALLOC % 2 == 0 {
-        say(&mut *out, b"as they come\n")
-    } else {
-        said(
-            &mut *out,
-            b"RA #, WA #, TR # in cacheable halves\n",
-            [
-                alloccfg / TR % 2,
-                alloccfg / WA % 2,
-                alloccfg / RA % 2,
-                0,
-                0,
-                0,
-                0,
-                0,
-            ],
-        )
+fn hints_made_told(out: &mut impl Write, alloccfg: u64) -> io::Result<()> {
+    write!(out, "; hints (ALLOCCFG 0x{alloccfg:x}) ")?;
+    if alloccfg & ALLOC == 0 {
+        return writeln!(out, "as they come");
     }
+    writeln!(
+        out,
+        "RA {}, WA {}, TR {} in cacheable halves",
+        alloccfg / TR % 2,
+        alloccfg / WA % 2,
+        alloccfg / RA % 2
+    )
 }

@@ -1,165 +1,115 @@
 // What a person should look at, and why.
-ghost use Rattle.std.specs.Prelude.{◌+◌, ◌*◌, ◌≤◌, length};
-
 use crate::files;
+use crate::files::{Dump, Words};
 use commands::Features;
 use rows::{Kind, Mark, Row};
 use std::io;
 use std::io::Write;
-use text::{one, say, two};
 
 // `good`: nothing is refused. `raised`: a run raises an error.
 pub fn told(
     out: &mut impl Write,
-    kept: &[u64],
-    events: &[u64],
-    f: Features,
+    dump: &Dump,
+    features: Features,
     good: bool,
     raised: bool,
 ) -> io::Result<()> {
-    say(&mut *out, b"\nWhat is worth a look\n")?;
+    writeln!(out, "\nWhat is worth a look")?;
     if !good {
-        say(&mut *out, b"  what is told as refused above\n")?;
+        writeln!(out, "  what is told as refused above")?;
     }
     if raised {
-        say(
-            &mut *out,
-            b"  an illegal command waits, for which a run raises an error\n",
+        writeln!(
+            out,
+            "  an illegal command waits, for which a run raises an error"
         )?;
     }
-    let any = control_told(&mut *out, kept)?
-        | doubled(&mut *out, kept)?
-        | marked(&mut *out, kept, f)?
-        | dropped(&mut *out, events)?;
+    let (rows, _) = files::fours(&dump.kept.words);
+    let mut any = control_told(&mut *out, &dump.kept.words)?;
+    any |= doubled_told(&mut *out, rows)?;
+    any |= marked_told(&mut *out, rows, features)?;
+    any |= dropped_told(&mut *out, &dump.events)?;
     if good & !raised & !any {
-        say(&mut *out, b"  nothing\n")?;
+        writeln!(out, "  nothing")?;
     }
     Ok(())
 }
 
-// The control word, if it is one.
+// The control word, if it is one. This and what follows answers whether there was something to tell.
 fn control_told(out: &mut impl Write, kept: &[u64]) -> io::Result<bool> {
-    let w = files::first(kept);
-    if (kept.len() == 0) | !control::well_formed(w) {
-        return Ok(false);
-    }
+    let w = match kept.first() {
+        Some(w) if control::well_formed(*w) => *w,
+        _ => return Ok(false),
+    };
     let active = control::active(w);
     let pending = control::pending_of(w) == 1;
+    let n = control::log2size_of(w);
+    let waiting = indexes::distance(n, control::rd_of(w), control::wr_of(w));
+    let full = waiting == words::power(n);
     if active {
-        say(
-            &mut *out,
-            b"  an error is active: until the guest acknowledges it a run does nothing\n",
+        writeln!(
+            out,
+            "  an error is active: until the guest acknowledges it a run does nothing"
         )?;
     }
     if pending {
-        say(
-            &mut *out,
-            b"  an interrupt is pending: it is to be raised, then cleared\n",
+        writeln!(
+            out,
+            "  an interrupt is pending: it is to be raised, then cleared"
         )?;
     }
-    Ok(active | pending | full(&mut *out, w)?)
-}
-
-fn full(out: &mut impl Write, w: u64) -> io::Result<bool> {
-    let n = control::log2size_of(w);
-    let waiting = indexes::distance(n, control::rd_of(w), control::wr_of(w));
-    if waiting != words::power(n) {
-        return Ok(false);
+    if full {
+        writeln!(out, "  the queue is full")?;
     }
-    say(&mut *out, b"  the queue is full\n")?;
-    Ok(true)
+    Ok(active | pending | full)
 }
 
 // Rows that could answer the same access as a lower one. Rows that are ill formed answer nothing, since the unit refuses the whole
 // memory.
-fn doubled(out: &mut impl Write, kept: &[u64]) -> io::Result<bool> {
-    let n = files::fours(kept);
+fn doubled_told(out: &mut impl Write, rows: &[[u64; 4]]) -> io::Result<bool> {
     let mut any = false;
-    for j in 0..n {
-        any = any | doubled_row(&mut *out, kept, j)?;
+    for (j, four) in rows.iter().enumerate() {
+        let row = files::row_of(four);
+        if rows::may_answer(row) & row_forms::well_formed(row) {
+            any |= doubles_told(&mut *out, &rows[..j], j, row)?;
+        }
     }
     Ok(any)
 }
 
-fn doubled_row(out: &mut impl Write, kept: &[u64], j: usize) -> io::Result<bool>
-    requires { 4 * j + 5 ≤ length kept.now }
-{
-    let row = image::row_at(kept, j);
-    if !(rows::may_answer(row) & row_forms::well_formed(row)) {
-        return Ok(false);
-    }
-    if let Some(i) = shadow_of(kept, j, row) {
-        two(
-            &mut *out,
-            b"  row # never answers: row # answers all that it could\n",
-            j as u64,
-            i as u64,
+// Tells that the row at j is never reached, or else the lower rows that answer before it.
+fn doubles_told(out: &mut impl Write, lower: &[[u64; 4]], j: usize, row: Row) -> io::Result<bool> {
+    if let Some(i) = lower
+        .iter()
+        .position(|low| shadows(files::row_of(low), row))
+    {
+        writeln!(
+            out,
+            "  row {j} never answers: row {i} answers all that it could"
         )?;
         return Ok(true);
     }
-    doubles_told(&mut *out, kept, j, row)
-}
-
-// The lowest row below j that answers whatever the row there could.
-fn shadow_of(kept: &[u64], j: usize, row: Row) -> Option<usize>
-    requires { 4 * j + 5 ≤ length kept.now }
-{
-    for i in 0..j {
-        if shadows(image::row_at(kept, i), row) {
-            return Some(i);
+    let mut any = false;
+    for (i, low) in lower.iter().enumerate() {
+        if collides(files::row_of(low), row) {
+            if !any {
+                write!(
+                    out,
+                    "  row {j} could answer accesses that these lower rows answer first:"
+                )?;
+            }
+            any = true;
+            write!(out, " {i}")?;
         }
     }
-    None
-}
-
-fn doubles_told(out: &mut impl Write, kept: &[u64], j: usize, row: Row) -> io::Result<bool>
-    requires { 4 * j + 5 ≤ length kept.now }
-{
-    let mut any = false;
-    for i in 0..j {
-        any = double_told(
-            &mut *out,
-            any,
-            i as u64,
-            image::row_at(kept, i),
-            j as u64,
-            row,
-        )?;
-    }
     if any {
-        say(&mut *out, b"\n")?;
+        writeln!(out)?;
     }
     Ok(any)
 }
 
-// Tells a lower row behind those told before, and answers whether there is one so far.
-fn double_told(
-    out: &mut impl Write,
-    any: bool,
-    i: u64,
-    low: Row,
-    j: u64,
-    row: Row,
-) -> io::Result<bool> {
-    if !collides(low, row) {
-        return Ok(any);
-    }
-    if !any {
-        one(
-            &mut *out,
-            b"  row # could answer accesses that these lower rows answer first:",
-            j,
-        )?;
-    }
-    one(&mut *out, b" #", i)?;
-    Ok(true)
-}
-
 fn collides(low: Row, high: Row) -> bool {
-    if !doubles::collides(low, high) {
-        return false;
-    }
-    row_forms::well_formed(low)
+    doubles::collides(low, high) && row_forms::well_formed(low)
 }
 
 // Whether the lower of two rows answers whatever the other could. Spans are powers of two from multiples of themselves, so that of
@@ -167,50 +117,48 @@ fn collides(low: Row, high: Row) -> bool {
 fn shadows(low: Row, high: Row) -> bool {
     let p = rows::parts_of(low);
     let q = rows::parts_of(high);
-    if !((q.span <= p.span) & ((p.kind != Kind::Stage1) | p.global | !q.global)) {
-        return false;
-    }
-    collides(low, high)
+    (q.span <= p.span) && ((p.kind != Kind::Stage1) | p.global | !q.global) && collides(low, high)
 }
 
 // The hypervisor's rows, if no command for them is legal.
-fn marked(out: &mut impl Write, kept: &[u64], f: Features) -> io::Result<bool> {
-    let n = files::fours(kept);
-    let mut any = false;
-    if f.hyp & f.s1p {
+fn marked_told(out: &mut impl Write, rows: &[[u64; 4]], features: Features) -> io::Result<bool> {
+    if features.hyp & features.s1p {
         return Ok(false);
     }
-    for i in 0..n {
-        any = any | marked_told(&mut *out, i as u64, image::row_at(kept, i))?;
+    let mut any = false;
+    for (i, four) in rows.iter().enumerate() {
+        let row = files::row_of(four);
+        let p = rows::parts_of(row);
+        if (row.w0 != 0) & (p.kind == Kind::Stage1) & (p.mark != Mark::Unmarked) {
+            any = true;
+            let mark = match p.mark {
+                Mark::El2 => "EL2",
+                Mark::El2E2h => "EL2-E2H",
+                _ => "both",
+            };
+            writeln!(
+                out,
+                "  row {i} is the hypervisor's ({mark}), and without Hyp and S1P no command removes it"
+            )?;
+        }
     }
     Ok(any)
 }
 
-fn marked_told(out: &mut impl Write, i: u64, row: Row) -> io::Result<bool> {
-    let p = rows::parts_of(row);
-    if (row.w0 == 0) | (p.kind != Kind::Stage1) | (p.mark == Mark::Unmarked) {
-        return Ok(false);
-    }
-    two(
-        &mut *out,
-        b"  row # is the hypervisor's ({|EL2|EL2-E2H|both}), and without Hyp and S1P no command removes it\n",
-        i,
-        p.mark as u64,
-    )?;
-    Ok(true)
-}
-
 // Of a recorder that is accepted.
-fn dropped(out: &mut impl Write, events: &[u64]) -> io::Result<bool> {
-    if let Err(_) = events::check(events) {
+fn dropped_told(out: &mut impl Write, events: &Option<Words>) -> io::Result<bool> {
+    let Some(events) = events else {
         return Ok(false);
+    };
+    let dropped = match events.words.first() {
+        Some(w) => events::check(&events.words).is_ok() && events::outstanding(*w),
+        None => false,
+    };
+    if dropped {
+        writeln!(
+            out,
+            "  records were dropped, and nobody has acknowledged it"
+        )?;
     }
-    if !events::outstanding(files::first(events)) {
-        return Ok(false);
-    }
-    say(
-        &mut *out,
-        b"  records were dropped, and nobody has acknowledged it\n",
-    )?;
-    Ok(true)
+    Ok(dropped)
 }

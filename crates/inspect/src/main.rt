@@ -14,110 +14,81 @@ mod state_text;
 mod usage;
 
 use args::Args;
-use files::Sizes;
+use files::{Dump, Words};
+use std::alloc::Global;
 use std::io;
 use std::io::{BufWriter, Write};
-use std::rt::{Env, Files};
+use std::rt::Files;
 
 fn main(rt: HostRuntime) -> io::Result<()> {
     let mut out = BufWriter::new(rt.alloc(), io::writer(&rt))?;
-    let a = args::given(&rt);
-    if a.wrong {
-        usage::told(&mut out)?;
-    } else {
-        dump(&rt, &mut out, a)?;
+    let words = args::words(&rt, rt.alloc())?;
+    match Args::of(&words) {
+        Some(args) => inspect(&rt, rt.alloc(), &mut out, args)?,
+        None => out.write_all(usage::TEXT)?,
     }
     out.flush()
 }
 
-// Reads the files. Of one that cannot be read the system's reason was told, and nothing else is.
-fn dump(rt: &(impl Env + Files + Eprint + Alloc), out: &mut impl Write, a: Args) -> io::Result<()> {
-    let mut kept = [0u64; files::KEPT];
-    let mut queue = [0u8; files::QUEUE];
-    let mut table = [0u64; files::TABLE];
-    let mut events = [0u64; files::EVENTS];
-    let sizes = Sizes {
-        kept: files::words(rt, a.kept, &mut kept)?,
-        queue: files::bytes(rt, a.queue, &mut queue)?,
-        table: files::words(rt, a.table, &mut table)?,
-        events: files::words(rt, a.events, &mut events)?,
-    };
-    if !files::failed(sizes) {
-        lend(&mut *out, a, sizes, &kept, &queue, &table, &events)?;
+// Reads the files. Of one that cannot be read, such as a folder, the system's reason is told, and nothing else is.
+fn inspect(
+    rt: &(impl Files + Eprint + Alloc),
+    alloc: Global,
+    out: &mut impl Write,
+    args: Args<'_>,
+) -> io::Result<()> {
+    let kept = files::read_words(rt, alloc, args.kept, files::KEPT);
+    let queue = args
+        .queue
+        .map(|name| files::read_bytes(rt, alloc, name, files::QUEUE_READ))
+        .transpose();
+    let table = args
+        .table
+        .map(|name| files::read_words(rt, alloc, name, files::TABLE))
+        .transpose();
+    let events = args
+        .events
+        .map(|name| files::read_words(rt, alloc, name, files::EVENTS))
+        .transpose();
+    refusal_told(rt, Some(args.kept), &kept)?;
+    refusal_told(rt, args.queue, &queue)?;
+    refusal_told(rt, args.table, &table)?;
+    refusal_told(rt, args.events, &events)?;
+    if let (Ok(kept), Ok(queue), Ok(table), Ok(events)) = (kept, queue, table, events) {
+        let dump = Dump {
+            kept,
+            queue,
+            table,
+            events,
+        };
+        told(alloc, &mut *out, &dump, args.features)?;
     }
     Ok(())
 }
 
-// Lends as much of each as was read.
-fn lend(
-    out: &mut impl Write,
-    a: Args,
-    sizes: Sizes,
-    kept: &[u64],
-    queue: &[u8],
-    table: &[u64],
-    events: &[u64],
+fn refusal_told<T>(
+    rt: &(impl Eprint + Alloc),
+    name: Option<&str>,
+    read: &io::Result<T>,
 ) -> io::Result<()> {
-    let k = sizes.kept;
-    let q = sizes.queue;
-    let t = sizes.table;
-    let e = sizes.events;
-    let kept_words = k.words;
-    let queue_bytes = q.bytes;
-    let table_words = t.words;
-    let event_words = e.words;
-    if kept_words <= kept.len() {
-        if queue_bytes <= queue.len() {
-            if table_words <= table.len() {
-                if event_words <= events.len() {
-                    told(
-                        &mut *out,
-                        a,
-                        sizes,
-                        &kept[..kept_words],
-                        &queue[..queue_bytes],
-                        &table[..table_words],
-                        &events[..event_words],
-                    )?;
-                }
-            }
-        }
+    if let (Some(name), Err(why)) = (name, read) {
+        text::fail(rt, name, why)?;
     }
     Ok(())
 }
 
-fn told(
-    out: &mut impl Write,
-    a: Args,
-    sizes: Sizes,
-    kept: &[u64],
-    queue: &[u8],
-    table: &[u64],
-    events: &[u64],
-) -> io::Result<()> {
-    let k = sizes.kept;
-    let q = sizes.queue;
-    let t = sizes.table;
-    let e = sizes.events;
-    args::features_told(&mut *out, a)?;
-    let mut good = state_text::told(&mut *out, kept, k)?;
-    if 0 < kept.len() {
-        row_text::told(&mut *out, kept)?;
+fn told(alloc: Global, out: &mut impl Write, dump: &Dump, given: Option<u64>) -> io::Result<()> {
+    let features = args::features_told(&mut *out, given)?;
+    let mut good = state_text::told(&mut *out, &dump.kept)?;
+    if !dump.kept.words.is_empty() {
+        row_text::told(&mut *out, &dump.kept.words)?;
     }
-    good = good & region_text::told(&mut *out, table, t)?;
-    good = good & record_text::told(&mut *out, events, e)?;
-    good = good & queue_text::told(&mut *out, queue, q, kept, a.features)?;
-    let raised = if q.given {
-        plan::told(&mut *out, kept, k, table, t, queue, a.features)?
-    } else {
-        false
+    good &= region_text::told(&mut *out, &dump.table)?;
+    good &= record_text::told(&mut *out, &dump.events)?;
+    good &= queue_text::told(&mut *out, &dump.queue, &dump.kept.words, features)?;
+    let raised = match &dump.queue {
+        Some(queue) => plan::told(alloc, &mut *out, dump, queue, features)?,
+        None => false,
     };
-    look::told(
-        &mut *out,
-        kept,
-        events,
-        commands::features_of(a.features),
-        good,
-        raised,
-    )
+    look::told(&mut *out, dump, features, good, raised)
 }

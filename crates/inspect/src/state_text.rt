@@ -1,11 +1,10 @@
 // The kept memory as a whole: whether the unit takes it, and what its control word says.
 use crate::files;
-use crate::files::Size;
+use crate::files::Words;
 use control::Fields;
 use image::Refusal;
-use std::io;
 use std::io::Write;
-use text::{bit, one, say, three, two};
+use std::{fmt, io};
 
 // The bits of the control word that are always 0.
 const ZERO_HIGH: u64 = 63;
@@ -13,149 +12,125 @@ const ZERO_HIGH: u64 = 63;
 const ZERO_LOW: u64 = 56;
 
 // Answers whether the unit takes it.
-pub fn told(out: &mut impl Write, kept: &[u64], size: Size) -> io::Result<bool> {
-    files::heading(&mut *out, b"Kept memory", size, files::WORD * files::KEPT)?;
-    let good = verdict(&mut *out, kept, size)?;
-    if kept.len() == 0 {
-        return Ok(good);
-    }
-    files::rest_told(&mut *out, kept, files::behind_fours(kept), size)?;
-    control_told(&mut *out, kept[0])?;
-    let n = files::fours(kept);
-    two(
+pub fn told(out: &mut impl Write, kept: &Words) -> io::Result<bool> {
+    files::heading_told(
         &mut *out,
-        b"  rows in use: # of #\n",
-        image::used_rows(kept, n) as u64,
-        n as u64,
+        "Kept memory",
+        Some(kept.bytes),
+        files::WORD * files::KEPT,
     )?;
-    Ok(good)
+    let checked = check(kept);
+    match checked {
+        Ok(_) => writeln!(out, "  accepted by the unit")?,
+        Err(why) => writeln!(out, "  refused {}", Refused(why))?,
+    }
+    if let Some(w) = kept.words.first() {
+        let (rows, rest) = files::fours(&kept.words);
+        files::rest_told(&mut *out, rest, kept.bytes)?;
+        control_told(&mut *out, *w)?;
+        let n = rows.len();
+        let used = rows.iter().filter(|[w0, ..]| *w0 != 0).count();
+        writeln!(out, "  rows in use: {used} of {n}")?;
+    }
+    Ok(checked.is_ok())
 }
 
-fn verdict(out: &mut impl Write, kept: &[u64], size: Size) -> io::Result<bool> {
-    if !files::is_whole(size, kept.len()) {
-        length_told(&mut *out)?;
-        return Ok(false);
+fn check(kept: &Words) -> Result<usize, Refusal> {
+    if !kept.is_whole() {
+        return Err(Refusal::BadLength);
     }
-    match image::check(kept) {
-        Ok(_) => {
-            say(&mut *out, b"  accepted by the unit\n")?;
-            Ok(true)
+    image::check(&kept.words)
+}
+
+// A refusal by its number, and what it means.
+#[derive(Clone, Copy)]
+struct Refused(Refusal);
+
+impl fmt::Display for Refused {
+    fn fmt<W: fmt::Write>(&self, f: &mut fmt::Formatter<W>) -> fmt::Result {
+        match self.0 {
+            Refusal::BadLength => write!(
+                f,
+                "1: the length is not 8 times 1 + 4 N bytes with N from 1 to {}",
+                image::MAX_ROWS
+            ),
+            Refusal::BadControl => f.write_str("2: the control word is ill formed"),
+            Refusal::BadRow(i) => write!(f, "3: row {i} is ill formed, and none below it"),
         }
-        Err(why) => {
-            refused(&mut *out, why)?;
-            Ok(false)
-        }
     }
-}
-
-fn refused(out: &mut impl Write, why: Refusal) -> io::Result<()> {
-    match why {
-        Refusal::BadLength => length_told(&mut *out),
-        Refusal::BadControl => say(&mut *out, b"  refused 2: the control word is ill formed\n"),
-        Refusal::BadRow(i) => one(
-            &mut *out,
-            b"  refused 3: row # is ill formed, and none below it\n",
-            i as u64,
-        ),
-    }
-}
-
-fn length_told(out: &mut impl Write) -> io::Result<()> {
-    one(
-        &mut *out,
-        b"  refused 1: the length is not 8 times 1 + 4 N bytes with N from 1 to #\n",
-        image::MAX_ROWS as u64,
-    )
 }
 
 fn control_told(out: &mut impl Write, w: u64) -> io::Result<()> {
     let c = control::fields_of(w);
-    one(&mut *out, b"  control word 0x$\n", w)?;
-    if control::well_formed(w) {
+    let good = control::well_formed(w);
+    writeln!(out, "  control word 0x{w:x}")?;
+    if good {
         indexes_told(&mut *out, c)?;
     } else {
-        two(&mut *out, b"  RD 0x$\n  WR 0x$\n", c.rd, c.wr)?;
-        one(&mut *out, b"  LOG2SIZE #\n", c.log2size)?;
+        writeln!(out, "  RD 0x{:x}\n  WR 0x{:x}", c.rd, c.wr)?;
+        writeln!(out, "  LOG2SIZE {}", c.log2size)?;
     }
-    one(&mut *out, b"  ERR #\n", c.err)?;
-    three(
-        &mut *out,
-        b"  error active: {no|yes} (GERROR #, GERRORN #)\n",
-        bit(control::active(w)),
+    writeln!(out, "  ERR {}", c.err)?;
+    writeln!(
+        out,
+        "  error active: {} (GERROR {}, GERRORN {})",
+        yes_or_no(control::active(w)),
         c.gerror,
-        c.gerrorn,
+        c.gerrorn
     )?;
-    two(
-        &mut *out,
-        b"  queue enabled: {no|yes}\n  interrupt pending: {no|yes}\n",
-        c.cmdqen,
-        c.pending,
-    )?;
-    if !control::well_formed(w) {
-        faults(&mut *out, c, w)?;
+    writeln!(out, "  queue enabled: {}", yes_or_no(c.cmdqen == 1))?;
+    writeln!(out, "  interrupt pending: {}", yes_or_no(c.pending == 1))?;
+    if !good {
+        faults_told(&mut *out, c, w)?;
     }
     Ok(())
+}
+
+pub fn yes_or_no(is: bool) -> &'static str {
+    if is { "yes" } else { "no" }
 }
 
 // The indexes of a well-formed word.
 fn indexes_told(out: &mut impl Write, c: Fields) -> io::Result<()> {
     let n = c.log2size % 32;
-    two(
-        &mut *out,
-        b"  RD 0x$, slot #\n",
-        c.rd,
-        indexes::slot(n, c.rd),
-    )?;
-    two(
-        &mut *out,
-        b"  WR 0x$, slot #\n",
-        c.wr,
-        indexes::slot(n, c.wr),
-    )?;
-    two(&mut *out, b"  LOG2SIZE #, slots: #\n", n, words::power(n))?;
-    one(
-        &mut *out,
-        b"  commands that wait: #\n",
-        indexes::distance(n, c.rd, c.wr),
+    writeln!(out, "  RD 0x{:x}, slot {}", c.rd, indexes::slot(n, c.rd))?;
+    writeln!(out, "  WR 0x{:x}, slot {}", c.wr, indexes::slot(n, c.wr))?;
+    writeln!(out, "  LOG2SIZE {n}, slots: {}", words::power(n))?;
+    writeln!(
+        out,
+        "  commands that wait: {}",
+        indexes::distance(n, c.rd, c.wr)
     )
 }
 
 // The rules that the control word breaks.
-fn faults(out: &mut impl Write, c: Fields, w: u64) -> io::Result<()> {
+fn faults_told(out: &mut impl Write, c: Fields, w: u64) -> io::Result<()> {
     let n = c.log2size % 32;
     let turn = words::power(n + 1);
     let zero = words::part(w, ZERO_HIGH, ZERO_LOW);
     if zero != 0 {
-        one(
-            &mut *out,
-            b"  wrong: bits 63 to 56 are 0x$ and not 0\n",
-            zero,
-        )?;
+        writeln!(out, "  wrong: bits 63 to 56 are 0x{zero:x} and not 0")?;
     }
     if control::MAX_LOG2 < n {
-        one(
-            &mut *out,
-            b"  wrong: LOG2SIZE is above #\n",
-            control::MAX_LOG2,
-        )?;
+        writeln!(out, "  wrong: LOG2SIZE is above {}", control::MAX_LOG2)?;
     }
     if turn <= c.rd {
-        one(&mut *out, b"  wrong: RD is not below 0x$\n", turn)?;
+        writeln!(out, "  wrong: RD is not below 0x{turn:x}")?;
     }
     if turn <= c.wr {
-        one(&mut *out, b"  wrong: WR is not below 0x$\n", turn)?;
+        writeln!(out, "  wrong: WR is not below 0x{turn:x}")?;
     }
     if words::power(n) < indexes::distance(n, c.rd, c.wr) {
-        say(
-            &mut *out,
-            b"  wrong: WR is further from RD than the queue has slots\n",
+        writeln!(
+            out,
+            "  wrong: WR is further from RD than the queue has slots"
         )?;
     }
     if 1 < c.err {
-        say(&mut *out, b"  wrong: ERR is neither 0 nor 1\n")?;
+        writeln!(out, "  wrong: ERR is neither 0 nor 1")?;
     }
     if control::active(w) & (c.err != 1) {
-        say(&mut *out, b"  wrong: an error is active and ERR is not 1\n")?;
+        writeln!(out, "  wrong: an error is active and ERR is not 1")?;
     }
     Ok(())
 }

@@ -1,7 +1,0 @@
--- `inspect::args::given` is safe and ends.
--- Assumes nothing.
-use Rattle.std.proofs.Common.{◌-◌}
-use Rattle.inspect.proofs.args.given.Given as goal
-
-abbrev pub decreases-loop-i : goal.decreases-loop-i
-decreases-loop-i g l = l.n - l.i
