@@ -101,7 +101,7 @@ fn translated(kept: &[u64], w: [u64; 8], answer: &mut [u64; 8]) -> u64 {
     let mut t = interface::transaction_of(0, 0, w[2], w[3], a);
     t.stream = w[0];
     t.substream = w[1];
-    let r = interface::translate_reply(transactions::translate(kept, t));
+    let r = transactions::translate(kept, t).reply();
     let words = r.words;
     *answer = words;
     r.code

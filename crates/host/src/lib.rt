@@ -9,14 +9,15 @@ ghost use Rattle.host.specs.Told.{Told, Leaves};
 ghost use Rattle.host.specs.Calls.{run, fill, table_fill, doorbell, acknowledge, clear_pending, enable, event_write, event_read, event_acknowledge, translate, check_batch, state, write_command, write_batch};
 
 use attributes::Attributes;
-use interface::Reply;
+use interface::Tells;
 use regions::Region;
 use rows::Row;
 
-// Puts a reply's words into the answer, and hands back its number.
-fn tell(answer: &mut [u64; 8], reply: Reply) -> u64
-    ensures { Told reply answer.new result }
+// Puts the words of what is told into the answer, and hands back its number.
+fn tell<A: Tells>(answer: &mut [u64; 8], a: A) -> u64
+    ensures { Told (A.reply a) answer.new result }
 {
+    let reply = a.reply();
     let words = reply.words;
     *answer = words;
     reply.code
@@ -34,7 +35,7 @@ pub fn tahvenno_run(
 {
     let f = commands::features_of(features);
     let a = runs::run(&mut *kept, &mut *table, queue, f, allowance);
-    tell(&mut *answer, interface::run_reply(a))
+    tell(&mut *answer, a)
 }
 
 pub fn tahvenno_fill(
@@ -50,7 +51,7 @@ pub fn tahvenno_fill(
     ensures { Leaves (fill row (record { w0 = w0; w1 = w1; w2 = w2; w3 = w3 }) allowance kept.old) kept.new answer.new result }
 {
     let a = fills::fill(&mut *kept, row as usize, Row { w0, w1, w2, w3 }, allowance);
-    tell(&mut *answer, interface::fill_reply(a))
+    tell(&mut *answer, a)
 }
 
 // The second table is lent beside the kept memory, which is only read.
@@ -72,35 +73,35 @@ pub fn tahvenno_table_fill(
         Region { w0, w1 },
         allowance,
     );
-    tell(&mut *answer, interface::table_fill_reply(a))
+    tell(&mut *answer, a)
 }
 
 pub fn tahvenno_doorbell(kept: &mut [u64], wr: u64, answer: &mut [u64; 8]) -> u64
     ensures { Leaves (doorbell wr kept.old) kept.new answer.new result }
 {
     let a = control_calls::doorbell(&mut *kept, wr);
-    tell(&mut *answer, interface::doorbell_reply(a))
+    tell(&mut *answer, a)
 }
 
 pub fn tahvenno_acknowledge(kept: &mut [u64], answer: &mut [u64; 8]) -> u64
     ensures { Leaves (acknowledge kept.old) kept.new answer.new result }
 {
     let a = control_calls::acknowledge(&mut *kept);
-    tell(&mut *answer, interface::acknowledge_reply(a))
+    tell(&mut *answer, a)
 }
 
 pub fn tahvenno_clear_pending(kept: &mut [u64], answer: &mut [u64; 8]) -> u64
     ensures { Leaves (clear_pending kept.old) kept.new answer.new result }
 {
     let a = control_calls::clear_pending(&mut *kept);
-    tell(&mut *answer, interface::clear_reply(a))
+    tell(&mut *answer, a)
 }
 
 pub fn tahvenno_enable(kept: &mut [u64], on: u64, answer: &mut [u64; 8]) -> u64
     ensures { Leaves (enable on kept.old) kept.new answer.new result }
 {
     let a = control_calls::enable(&mut *kept, !(on == 0));
-    tell(&mut *answer, interface::enable_reply(a))
+    tell(&mut *answer, a)
 }
 
 pub fn tahvenno_translate(
@@ -123,19 +124,13 @@ pub fn tahvenno_translate(
         how,
         Attributes { memattr, sh, hints },
     );
-    tell(
-        &mut *answer,
-        interface::translate_reply(transactions::translate(kept, t)),
-    )
+    tell(&mut *answer, transactions::translate(kept, t))
 }
 
 pub fn tahvenno_state(kept: &[u64], answer: &mut [u64; 8]) -> u64
     ensures { Told (state kept.now) answer.new result }
 {
-    tell(
-        &mut *answer,
-        interface::state_reply(image_state::state_of(kept)),
-    )
+    tell(&mut *answer, image_state::state_of(kept))
 }
 
 // Document 02, T-12: nothing is stored, whatever the answer is.
@@ -156,7 +151,7 @@ pub fn tahvenno_check_batch(
         proposed,
         commands::features_of(features),
     );
-    tell(&mut *answer, interface::check_reply(a))
+    tell(&mut *answer, a)
 }
 
 // The recorder, in words of its own.
@@ -168,22 +163,22 @@ pub fn tahvenno_event_write(
 ) -> u64
     ensures { Leaves (event_write bytes.now allowance events.old) events.new answer.new result }
 {
-    let a = event_calls::write(&mut *events, bytes, allowance);
-    tell(&mut *answer, interface::event_write_reply(a))
+    let written = event_calls::write(&mut *events, bytes, allowance);
+    tell(&mut *answer, written)
 }
 
 pub fn tahvenno_event_read(events: &mut [u64], answer: &mut [u64; 8]) -> u64
     ensures { Leaves (event_read events.old) events.new answer.new result }
 {
-    let a = event_calls::read(&mut *events);
-    tell(&mut *answer, interface::event_read_reply(a))
+    let read = event_calls::read(&mut *events);
+    tell(&mut *answer, read)
 }
 
 pub fn tahvenno_event_acknowledge(events: &mut [u64], answer: &mut [u64; 8]) -> u64
     ensures { Leaves (event_acknowledge events.old) events.new answer.new result }
 {
-    let a = event_calls::acknowledge(&mut *events);
-    tell(&mut *answer, interface::event_acknowledge_reply(a))
+    let acknowledged = event_calls::acknowledge(&mut *events);
+    tell(&mut *answer, acknowledged)
 }
 
 // A command written by its fields. Nothing is kept: the slot is the caller's.
@@ -196,7 +191,7 @@ pub fn tahvenno_write_command(
     ensures { Leaves (write_command fields.now features slot.old) slot.new answer.new result }
 {
     let a = writer::write(&mut *slot, fields, commands::features_of(features));
-    tell(&mut *answer, interface::write_reply(a))
+    tell(&mut *answer, a)
 }
 
 pub fn tahvenno_write_batch(
@@ -214,5 +209,5 @@ pub fn tahvenno_write_batch(
         commands,
         commands::features_of(features),
     );
-    tell(&mut *answer, interface::batch_reply(a))
+    tell(&mut *answer, a)
 }

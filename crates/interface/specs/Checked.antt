@@ -1,6 +1,6 @@
 -- The C interface: what a caller of the batch check is told (document 02, T-12).
 -- Assumes nothing.
-use Rattle.std.specs.Prelude.{[], ◌∷◌, ℕ, Err, Ok, Result}
+use Rattle.std.specs.Prelude.{[], ◌∷◌, ℕ, Result}
 use Rattle.batches.specs.declared.Batch.{Batch}
 use Rattle.batches.specs.declared.Batch.TheVariants.{Original, Proposed}
 use Rattle.batches.specs.declared.CheckRefusal.{CheckRefusal}
@@ -9,7 +9,7 @@ use Rattle.batches.specs.declared.Comparison.{Comparison}
 use Rattle.batches.specs.declared.Comparison.TheVariants.{Same, Unfit, Differ}
 use Rattle.batches.specs.Batches.{number}
 use Rattle.interface.specs.declared.Reply.{Reply}
-use Rattle.interface.specs.Replies.{nothing, image_reply, table_reply}
+use Rattle.interface.specs.Replies.{nothing, answered, image_reply, table_reply}
 
 abbrev pub which_number : Batch → ℕ
 which_number Original = 0
@@ -21,8 +21,10 @@ check_refusal (Table why) = table_reply why
 check_refusal BadBatch = nothing (number BadBatch)
 
 -- yes; 1, the batch and the command in it that doesn't qualify; 2 and the lowest row that differs
+abbrev pub comparison_reply : Comparison → Reply
+comparison_reply Same = nothing 0
+comparison_reply (Unfit batch command) = record { code = 0; words = 1 ∷ which_number batch ∷ command ∷ 0 ∷ 0 ∷ 0 ∷ 0 ∷ 0 ∷ [] }
+comparison_reply (Differ row) = record { code = 0; words = 2 ∷ row ∷ 0 ∷ 0 ∷ 0 ∷ 0 ∷ 0 ∷ 0 ∷ [] }
+
 abbrev pub check_reply : Result Comparison CheckRefusal → Reply
-check_reply (Err why) = check_refusal why
-check_reply (Ok Same) = nothing 0
-check_reply (Ok (Unfit batch command)) = record { code = 0; words = 1 ∷ which_number batch ∷ command ∷ 0 ∷ 0 ∷ 0 ∷ 0 ∷ 0 ∷ [] }
-check_reply (Ok (Differ row)) = record { code = 0; words = 2 ∷ row ∷ 0 ∷ 0 ∷ 0 ∷ 0 ∷ 0 ∷ 0 ∷ [] }
+check_reply = answered check_refusal comparison_reply

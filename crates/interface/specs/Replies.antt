@@ -43,6 +43,15 @@ bit_of b = pick b 1 0
 abbrev pub nothing : ℕ → Reply
 nothing code = record { code = code; words = 0 ∷ 0 ∷ 0 ∷ 0 ∷ 0 ∷ 0 ∷ 0 ∷ 0 ∷ [] }
 
+-- an answer: what its refusal tells, or what is told of what was carried out
+abbrev pub answered : {T E : Type 0} → (E → Reply) → (T → Reply) → Result T E → Reply
+answered refusal done (Err why) = refusal why
+answered refusal done (Ok x) = done x
+
+-- carried out, with nothing more to tell
+abbrev pub carried : ⊤ → Reply
+carried x = nothing 0
+
 -- refusal 3 names its row
 abbrev pub row_of : Refusal → ℕ
 row_of BadLength = 0
@@ -81,13 +90,15 @@ run_refusal (Run-as-Image why) = image_reply why
 run_refusal (Run-as-Table why) = table_reply why
 run_refusal BadQueue = nothing (runs.number BadQueue)
 
-abbrev pub run_reply : Result Ran RunRefusal → Reply
-run_reply (Err why) = run_refusal why
-run_reply (Ok ran) =
+abbrev pub ran_reply : Ran → Reply
+ran_reply ran =
     record {
       code = 0;
       words = running.end_number ran.end ∷ ran.consumed ∷ ran.stores ∷ ran.removed ∷ ran.syncs ∷ reason_in ran.end ∷ slot_in ran.end ∷ 0 ∷ [];
     }
+
+abbrev pub run_reply : Result Ran RunRefusal → Reply
+run_reply = answered run_refusal ran_reply
 
 -- a fill: its end, and its stores
 abbrev pub fill_refusal : FillRefusal → Reply
@@ -97,10 +108,12 @@ fill_refusal RowInUse = nothing (fills.number RowInUse)
 fill_refusal Unfit = nothing (fills.number Unfit)
 fill_refusal Doubled = nothing (fills.number Doubled)
 
-abbrev pub fill_reply : Result Filling FillRefusal → Reply
-fill_reply (Err why) = fill_refusal why
-fill_reply (Ok filling) =
+abbrev pub filling_reply : Filling → Reply
+filling_reply filling =
     record { code = 0; words = fills.end_number filling.end ∷ filling.stores ∷ 0 ∷ 0 ∷ 0 ∷ 0 ∷ 0 ∷ 0 ∷ [] }
+
+abbrev pub fill_reply : Result Filling FillRefusal → Reply
+fill_reply = answered fill_refusal filling_reply
 
 -- the calls of one control store tell nothing more
 abbrev pub doorbell_refusal : DoorbellRefusal → Reply
@@ -108,16 +121,14 @@ doorbell_refusal (Doorbell-as-Image why) = image_reply why
 doorbell_refusal BadIndex = nothing (control-calls.doorbell_number BadIndex)
 
 abbrev pub doorbell_reply : Result ⊤ DoorbellRefusal → Reply
-doorbell_reply (Err why) = doorbell_refusal why
-doorbell_reply (Ok tt) = nothing 0
+doorbell_reply = answered doorbell_refusal carried
 
 abbrev pub acknowledge_refusal : AcknowledgeRefusal → Reply
 acknowledge_refusal (Acknowledge-as-Image why) = image_reply why
 acknowledge_refusal NoError = nothing (control-calls.acknowledge_number NoError)
 
 abbrev pub acknowledge_reply : Result ⊤ AcknowledgeRefusal → Reply
-acknowledge_reply (Err why) = acknowledge_refusal why
-acknowledge_reply (Ok tt) = nothing 0
+acknowledge_reply = answered acknowledge_refusal carried
 
 -- document 02, T-08
 abbrev pub clear_refusal : ClearRefusal → Reply
@@ -125,12 +136,10 @@ clear_refusal (Clear-as-Image why) = image_reply why
 clear_refusal NotPending = nothing (control-calls.clear_number NotPending)
 
 abbrev pub clear_reply : Result ⊤ ClearRefusal → Reply
-clear_reply (Err why) = clear_refusal why
-clear_reply (Ok tt) = nothing 0
+clear_reply = answered clear_refusal carried
 
 abbrev pub enable_reply : Result ⊤ Refusal → Reply
-enable_reply (Err why) = image_reply why
-enable_reply (Ok tt) = nothing 0
+enable_reply = answered image_reply carried
 
 -- a transaction: its outcome, and of an address that address, MemAttr, SH, hints, instruction, privileged
 abbrev pub miss_number : Miss → ℕ
@@ -158,11 +167,11 @@ transaction_refusal (Transaction-as-Image why) = image_reply why
 transaction_refusal IllFormed = nothing (transactions.number IllFormed)
 
 abbrev pub translate_reply : Result Outcome TransactionRefusal → Reply
-translate_reply (Err why) = transaction_refusal why
-translate_reply (Ok o) = outcome_reply o
+translate_reply = answered transaction_refusal outcome_reply
 
 -- a state: RD, WR, ERR, active, enabled, used rows
+abbrev pub is_reply : State → Reply
+is_reply s = record { code = 0; words = s.rd ∷ s.wr ∷ s.err ∷ bit_of s.active ∷ bit_of s.enabled ∷ s.used ∷ 0 ∷ 0 ∷ [] }
+
 abbrev pub state_reply : Result State Refusal → Reply
-state_reply (Err why) = image_reply why
-state_reply (Ok s) =
-    record { code = 0; words = s.rd ∷ s.wr ∷ s.err ∷ bit_of s.active ∷ bit_of s.enabled ∷ s.used ∷ 0 ∷ 0 ∷ [] }
+state_reply = answered image_reply is_reply

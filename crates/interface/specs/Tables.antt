@@ -7,7 +7,7 @@ use Rattle.region_fills.specs.declared.FillRefusal.TheVariants.{Image, Table, No
 use Rattle.fills.specs.declared.Filling.{Filling}
 use Rattle.region_fills.specs.Fills.{number}
 use Rattle.interface.specs.declared.Reply.{Reply}
-use Rattle.interface.specs.Replies.{nothing, image_reply, table_reply}
+use Rattle.interface.specs.Replies.{nothing, answered, image_reply, table_reply, filling_reply}
 
 -- a fill: its end, and its stores
 abbrev pub table_fill_refusal : FillRefusal → Reply
@@ -18,6 +18,4 @@ table_fill_refusal RowInUse = nothing (number RowInUse)
 table_fill_refusal Unfit = nothing (number Unfit)
 
 abbrev pub table_fill_reply : Result Filling FillRefusal → Reply
-table_fill_reply (Err why) = table_fill_refusal why
-table_fill_reply (Ok filling) =
-    record { code = 0; words = end_number filling.end ∷ filling.stores ∷ 0 ∷ 0 ∷ 0 ∷ 0 ∷ 0 ∷ 0 ∷ [] }
+table_fill_reply = answered table_fill_refusal filling_reply

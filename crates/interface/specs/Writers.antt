@@ -8,7 +8,7 @@ use Rattle.batch_writes.specs.declared.BatchRefusal.{BatchRefusal}
 use Rattle.batch_writes.specs.declared.BatchRefusal.TheVariants.{Image, BadQueue, BadCommand, NoRoom}
 use Rattle.batch_writes.specs.Batch as batch
 use Rattle.interface.specs.declared.Reply.{Reply}
-use Rattle.interface.specs.Replies.{nothing, image_reply}
+use Rattle.interface.specs.Replies.{nothing, answered, carried, image_reply}
 
 -- the writer tells nothing more
 abbrev pub write_refusal : WriteRefusal → Reply
@@ -16,8 +16,7 @@ write_refusal BadSlot = nothing (writer.number BadSlot)
 write_refusal (Bad why) = nothing (writer.number (Bad why))
 
 abbrev pub write_reply : Result ⊤ WriteRefusal → Reply
-write_reply (Err why) = write_refusal why
-write_reply (Ok tt) = nothing 0
+write_reply = answered write_refusal carried
 
 -- a batch names its first bad command
 abbrev pub batch_refusal : BatchRefusal → Reply
@@ -28,5 +27,4 @@ batch_refusal (BadCommand i why) =
 batch_refusal NoRoom = nothing (batch.number NoRoom)
 
 abbrev pub batch_reply : Result ⊤ BatchRefusal → Reply
-batch_reply (Err why) = batch_refusal why
-batch_reply (Ok tt) = nothing 0
+batch_reply = answered batch_refusal carried

@@ -3,9 +3,9 @@ ghost use Rattle.std.specs.Prelude.{◌≡◌};
 ghost use Rattle.commands.specs.Decoding.{reason_number};
 ghost use Rattle.runs.specs.Running as running;
 ghost use Rattle.fills.specs.Fills as fills;
-ghost use Rattle.interface.specs.Replies.{bit_of, nothing, image_reply, table_reply, reason_in, slot_in, run_refusal, run_reply, fill_refusal, fill_reply, doorbell_refusal, doorbell_reply, acknowledge_refusal, acknowledge_reply, clear_refusal, clear_reply, enable_reply, miss_number, outcome_reply, transaction_refusal, translate_reply, state_reply};
+ghost use Rattle.interface.specs.Replies.{bit_of, image_reply, table_reply, reason_in, slot_in, run_refusal, ran_reply, fill_refusal, filling_reply, doorbell_refusal, acknowledge_refusal, clear_refusal, miss_number, outcome_reply, transaction_refusal, is_reply};
 
-use crate::Reply;
+use crate::{Reply, Tells, nothing};
 use commands::Reason;
 use control_calls::{AcknowledgeRefusal, ClearRefusal, DoorbellRefusal};
 use fills::{FillEnd, FillRefusal, Filling};
@@ -17,45 +17,36 @@ use transactions::{Miss, Outcome, TransactionRefusal};
 fn bit_of(on: bool) -> u64
     ensures { result ≡ bit_of on }
 {
-    if on {
-        return 1;
-    }
-    0
+    u64::from(on)
 }
 
-// Carried out or refused, with no word to tell.
-pub fn nothing(code: u64) -> Reply
-    ensures { result ≡ nothing code }
-{
-    Reply {
-        code: code,
-        words: [0, 0, 0, 0, 0, 0, 0, 0],
-    }
-}
+impl Tells for Refusal {
+    ghost reply = { image_reply };
 
-pub fn image_reply(why: Refusal) -> Reply
-    ensures { result ≡ image_reply why }
-{
-    match why {
-        Refusal::BadLength => nothing(1),
-        Refusal::BadControl => nothing(2),
-        Refusal::BadRow(i) => Reply {
-            code: 3,
-            words: [i as u64, 0, 0, 0, 0, 0, 0, 0],
-        },
+    fn reply(self) -> Reply {
+        match self {
+            Refusal::BadLength => nothing(1),
+            Refusal::BadControl => nothing(2),
+            Refusal::BadRow(i) => Reply {
+                code: 3,
+                words: [i as u64, 0, 0, 0, 0, 0, 0, 0],
+            },
+        }
     }
 }
 
 // Document 02, T-11: why the second table is refused.
-pub fn table_reply(why: regions::Refusal) -> Reply
-    ensures { result ≡ table_reply why }
-{
-    match why {
-        regions::Refusal::BadLength => nothing(13),
-        regions::Refusal::BadRow(i) => Reply {
-            code: 14,
-            words: [i as u64, 0, 0, 0, 0, 0, 0, 0],
-        },
+impl Tells for regions::Refusal {
+    ghost reply = { table_reply };
+
+    fn reply(self) -> Reply {
+        match self {
+            regions::Refusal::BadLength => nothing(13),
+            regions::Refusal::BadRow(i) => Reply {
+                code: 14,
+                words: [i as u64, 0, 0, 0, 0, 0, 0, 0],
+            },
+        }
     }
 }
 
@@ -88,14 +79,11 @@ fn reason_in(e: End) -> u64
     ensures { result ≡ reason_in e }
 {
     match e {
-        End::Off => 0,
-        End::Held => 0,
-        End::Empty => 0,
         End::Raised(told) => {
             let why = told.why;
             reason_number(why)
         }
-        End::Cut => 0,
+        _ => 0,
     }
 }
 
@@ -103,49 +91,46 @@ fn slot_in(e: End) -> u64
     ensures { result ≡ slot_in e }
 {
     match e {
-        End::Off => 0,
-        End::Held => 0,
-        End::Empty => 0,
         End::Raised(told) => told.slot,
-        End::Cut => 0,
+        _ => 0,
     }
 }
 
-fn run_refusal(why: RunRefusal) -> Reply
-    ensures { result ≡ run_refusal why }
-{
-    match why {
-        RunRefusal::Image(r) => image_reply(r),
-        RunRefusal::Table(r) => table_reply(r),
-        RunRefusal::BadQueue => nothing(4),
-    }
-}
+impl Tells for RunRefusal {
+    ghost reply = { run_refusal };
 
-pub fn run_reply(a: Result<Ran, RunRefusal>) -> Reply
-    ensures { result ≡ run_reply a }
-{
-    match a {
-        Err(why) => run_refusal(why),
-        Ok(ran) => {
-            let e = ran.end;
-            Reply {
-                code: 0,
-                words: [
-                    end_number(e),
-                    ran.consumed,
-                    ran.stores,
-                    ran.removed,
-                    ran.syncs,
-                    reason_in(e),
-                    slot_in(e),
-                    0,
-                ],
-            }
+    fn reply(self) -> Reply {
+        match self {
+            RunRefusal::Image(why) => why.reply(),
+            RunRefusal::Table(why) => why.reply(),
+            RunRefusal::BadQueue => nothing(4),
         }
     }
 }
 
-pub fn fill_end_number(e: FillEnd) -> u64
+impl Tells for Ran {
+    ghost reply = { ran_reply };
+
+    fn reply(self) -> Reply {
+        let ran = self;
+        let e = ran.end;
+        Reply {
+            code: 0,
+            words: [
+                end_number(e),
+                ran.consumed,
+                ran.stores,
+                ran.removed,
+                ran.syncs,
+                reason_in(e),
+                slot_in(e),
+                0,
+            ],
+        }
+    }
+}
+
+fn fill_end_number(e: FillEnd) -> u64
     ensures { result ≡ fills.end_number e }
 {
     match e {
@@ -154,93 +139,64 @@ pub fn fill_end_number(e: FillEnd) -> u64
     }
 }
 
-fn fill_refusal(why: FillRefusal) -> Reply
-    ensures { result ≡ fill_refusal why }
-{
-    match why {
-        FillRefusal::Image(r) => image_reply(r),
-        FillRefusal::NoSuchRow => nothing(7),
-        FillRefusal::RowInUse => nothing(8),
-        FillRefusal::Unfit => nothing(9),
-        FillRefusal::Doubled => nothing(11),
-    }
-}
+impl Tells for FillRefusal {
+    ghost reply = { fill_refusal };
 
-pub fn fill_reply(a: Result<Filling, FillRefusal>) -> Reply
-    ensures { result ≡ fill_reply a }
-{
-    match a {
-        Err(why) => fill_refusal(why),
-        Ok(filling) => {
-            let e = filling.end;
-            Reply {
-                code: 0,
-                words: [fill_end_number(e), filling.stores, 0, 0, 0, 0, 0, 0],
-            }
+    fn reply(self) -> Reply {
+        match self {
+            FillRefusal::Image(why) => why.reply(),
+            FillRefusal::NoSuchRow => nothing(7),
+            FillRefusal::RowInUse => nothing(8),
+            FillRefusal::Unfit => nothing(9),
+            FillRefusal::Doubled => nothing(11),
         }
     }
 }
 
-fn doorbell_refusal(why: DoorbellRefusal) -> Reply
-    ensures { result ≡ doorbell_refusal why }
-{
-    match why {
-        DoorbellRefusal::Image(r) => image_reply(r),
-        DoorbellRefusal::BadIndex => nothing(5),
+// Of either table.
+impl Tells for Filling {
+    ghost reply = { filling_reply };
+
+    fn reply(self) -> Reply {
+        let filling = self;
+        let e = filling.end;
+        Reply {
+            code: 0,
+            words: [fill_end_number(e), filling.stores, 0, 0, 0, 0, 0, 0],
+        }
     }
 }
 
-pub fn doorbell_reply(a: Result<(), DoorbellRefusal>) -> Reply
-    ensures { result ≡ doorbell_reply a }
-{
-    match a {
-        Err(why) => doorbell_refusal(why),
-        Ok(()) => nothing(0),
+impl Tells for DoorbellRefusal {
+    ghost reply = { doorbell_refusal };
+
+    fn reply(self) -> Reply {
+        match self {
+            DoorbellRefusal::Image(why) => why.reply(),
+            DoorbellRefusal::BadIndex => nothing(5),
+        }
     }
 }
 
-fn acknowledge_refusal(why: AcknowledgeRefusal) -> Reply
-    ensures { result ≡ acknowledge_refusal why }
-{
-    match why {
-        AcknowledgeRefusal::Image(r) => image_reply(r),
-        AcknowledgeRefusal::NoError => nothing(6),
+impl Tells for AcknowledgeRefusal {
+    ghost reply = { acknowledge_refusal };
+
+    fn reply(self) -> Reply {
+        match self {
+            AcknowledgeRefusal::Image(why) => why.reply(),
+            AcknowledgeRefusal::NoError => nothing(6),
+        }
     }
 }
 
-pub fn acknowledge_reply(a: Result<(), AcknowledgeRefusal>) -> Reply
-    ensures { result ≡ acknowledge_reply a }
-{
-    match a {
-        Err(why) => acknowledge_refusal(why),
-        Ok(()) => nothing(0),
-    }
-}
+impl Tells for ClearRefusal {
+    ghost reply = { clear_refusal };
 
-fn clear_refusal(why: ClearRefusal) -> Reply
-    ensures { result ≡ clear_refusal why }
-{
-    match why {
-        ClearRefusal::Image(r) => image_reply(r),
-        ClearRefusal::NotPending => nothing(12),
-    }
-}
-
-pub fn clear_reply(a: Result<(), ClearRefusal>) -> Reply
-    ensures { result ≡ clear_reply a }
-{
-    match a {
-        Err(why) => clear_refusal(why),
-        Ok(()) => nothing(0),
-    }
-}
-
-pub fn enable_reply(a: Result<(), Refusal>) -> Reply
-    ensures { result ≡ enable_reply a }
-{
-    match a {
-        Err(why) => image_reply(why),
-        Ok(()) => nothing(0),
+    fn reply(self) -> Reply {
+        match self {
+            ClearRefusal::Image(why) => why.reply(),
+            ClearRefusal::NotPending => nothing(12),
+        }
     }
 }
 
@@ -255,61 +211,56 @@ fn miss_number(miss: Miss) -> u64
     }
 }
 
-fn outcome_reply(o: Outcome) -> Reply
-    ensures { result ≡ outcome_reply o }
-{
-    match o {
-        Outcome::Translated(out) => {
-            let a = out.attributes;
-            Reply {
-                code: 0,
-                words: [
-                    0,
-                    out.address,
-                    a.memattr,
-                    a.sh,
-                    a.hints,
-                    bit_of(out.instruction),
-                    bit_of(out.privileged),
-                    0,
-                ],
+impl Tells for Outcome {
+    ghost reply = { outcome_reply };
+
+    fn reply(self) -> Reply {
+        match self {
+            Outcome::Translated(out) => {
+                let a = out.attributes;
+                Reply {
+                    code: 0,
+                    words: [
+                        0,
+                        out.address,
+                        a.memattr,
+                        a.sh,
+                        a.hints,
+                        bit_of(out.instruction),
+                        bit_of(out.privileged),
+                        0,
+                    ],
+                }
             }
+            Outcome::Abort => Reply {
+                code: 0,
+                words: [1, 0, 0, 0, 0, 0, 0, 0],
+            },
+            Outcome::Missed(miss) => Reply {
+                code: 0,
+                words: [miss_number(miss), 0, 0, 0, 0, 0, 0, 0],
+            },
         }
-        Outcome::Abort => Reply {
-            code: 0,
-            words: [1, 0, 0, 0, 0, 0, 0, 0],
-        },
-        Outcome::Missed(miss) => Reply {
-            code: 0,
-            words: [miss_number(miss), 0, 0, 0, 0, 0, 0, 0],
-        },
     }
 }
 
-fn transaction_refusal(why: TransactionRefusal) -> Reply
-    ensures { result ≡ transaction_refusal why }
-{
-    match why {
-        TransactionRefusal::Image(r) => image_reply(r),
-        TransactionRefusal::IllFormed => nothing(10),
+impl Tells for TransactionRefusal {
+    ghost reply = { transaction_refusal };
+
+    fn reply(self) -> Reply {
+        match self {
+            TransactionRefusal::Image(why) => why.reply(),
+            TransactionRefusal::IllFormed => nothing(10),
+        }
     }
 }
 
-pub fn translate_reply(a: Result<Outcome, TransactionRefusal>) -> Reply
-    ensures { result ≡ translate_reply a }
-{
-    match a {
-        Err(why) => transaction_refusal(why),
-        Ok(o) => outcome_reply(o),
-    }
-}
+impl Tells for State {
+    ghost reply = { is_reply };
 
-pub fn state_reply(a: Result<State, Refusal>) -> Reply
-    ensures { result ≡ state_reply a }
-{
-    match a {
-        Err(why) => image_reply(why),
-        Ok(s) => Reply {
+    fn reply(self) -> Reply {
+        let s = self;
+        Reply {
             code: 0,
             words: [
                 s.rd,
@@ -321,6 +272,6 @@ pub fn state_reply(a: Result<State, Refusal>) -> Reply
                 0,
                 0,
             ],
-        },
+        }
     }
 }

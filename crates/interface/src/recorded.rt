@@ -1,19 +1,20 @@
 // What a C caller is told of the recorder: document 02's numbers for the enums' cases.
 ghost use Rattle.std.specs.Prelude.{◌≡◌};
 ghost use Rattle.event_calls.specs.Calls as calls;
-ghost use Rattle.interface.specs.Recorded.{recorder_reply, event_write_reply, event_read_refusal, event_read_reply, event_acknowledge_refusal, event_acknowledge_reply};
+ghost use Rattle.interface.specs.Recorded.{recorder_reply, writing_reply, event_read_refusal, record_reply, event_acknowledge_refusal};
 
-use crate::Reply;
-use crate::answers::nothing;
+use crate::{Reply, Tells, nothing};
 use event_calls::{AcknowledgeRefusal, ReadRefusal, WriteEnd, Writing};
 use events::{Record, Refusal};
 
-fn recorder_reply(why: Refusal) -> Reply
-    ensures { result ≡ recorder_reply why }
-{
-    match why {
-        Refusal::BadLength => nothing(15),
-        Refusal::BadIndex => nothing(16),
+impl Tells for Refusal {
+    ghost reply = { recorder_reply };
+
+    fn reply(self) -> Reply {
+        match self {
+            Refusal::BadLength => nothing(15),
+            Refusal::BadIndex => nothing(16),
+        }
     }
 }
 
@@ -27,56 +28,49 @@ fn write_end_number(e: WriteEnd) -> u64
     }
 }
 
-pub fn event_write_reply(a: Result<Writing, Refusal>) -> Reply
-    ensures { result ≡ event_write_reply a }
-{
-    match a {
-        Err(why) => recorder_reply(why),
-        Ok(writing) => {
-            let e = writing.end;
-            Reply {
-                code: 0,
-                words: [write_end_number(e), writing.stores, 0, 0, 0, 0, 0, 0],
-            }
+impl Tells for Writing {
+    ghost reply = { writing_reply };
+
+    fn reply(self) -> Reply {
+        let writing = self;
+        let e = writing.end;
+        Reply {
+            code: 0,
+            words: [write_end_number(e), writing.stores, 0, 0, 0, 0, 0, 0],
         }
     }
 }
 
-fn event_read_refusal(why: ReadRefusal) -> Reply
-    ensures { result ≡ event_read_refusal why }
-{
-    match why {
-        ReadRefusal::Recorder(r) => recorder_reply(r),
-        ReadRefusal::Empty => nothing(17),
+impl Tells for ReadRefusal {
+    ghost reply = { event_read_refusal };
+
+    fn reply(self) -> Reply {
+        match self {
+            ReadRefusal::Recorder(why) => why.reply(),
+            ReadRefusal::Empty => nothing(17),
+        }
     }
 }
 
-pub fn event_read_reply(a: Result<Record, ReadRefusal>) -> Reply
-    ensures { result ≡ event_read_reply a }
-{
-    match a {
-        Err(why) => event_read_refusal(why),
-        Ok(event) => Reply {
+impl Tells for Record {
+    ghost reply = { record_reply };
+
+    fn reply(self) -> Reply {
+        let event = self;
+        Reply {
             code: 0,
             words: [event.w0, event.w1, event.w2, event.w3, 0, 0, 0, 0],
-        },
+        }
     }
 }
 
-fn event_acknowledge_refusal(why: AcknowledgeRefusal) -> Reply
-    ensures { result ≡ event_acknowledge_refusal why }
-{
-    match why {
-        AcknowledgeRefusal::Recorder(r) => recorder_reply(r),
-        AcknowledgeRefusal::NoOverflow => nothing(18),
-    }
-}
+impl Tells for AcknowledgeRefusal {
+    ghost reply = { event_acknowledge_refusal };
 
-pub fn event_acknowledge_reply(a: Result<(), AcknowledgeRefusal>) -> Reply
-    ensures { result ≡ event_acknowledge_reply a }
-{
-    match a {
-        Err(why) => event_acknowledge_refusal(why),
-        Ok(()) => nothing(0),
+    fn reply(self) -> Reply {
+        match self {
+            AcknowledgeRefusal::Recorder(why) => why.reply(),
+            AcknowledgeRefusal::NoOverflow => nothing(18),
+        }
     }
 }

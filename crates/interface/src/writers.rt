@@ -1,10 +1,9 @@
 // What a C caller is told of the writers: document 02's numbers for the enums' cases.
 ghost use Rattle.std.specs.Prelude.{◌≡◌};
 ghost use Rattle.writer.specs.Writing.{fault_number};
-ghost use Rattle.interface.specs.Writers.{write_refusal, write_reply, batch_refusal, batch_reply};
+ghost use Rattle.interface.specs.Writers.{write_refusal, batch_refusal};
 
-use crate::Reply;
-use crate::answers::{image_reply, nothing};
+use crate::{Reply, Tells, nothing};
 use batch_writes::BatchRefusal;
 use writer::{Fault, WriteRefusal};
 
@@ -17,43 +16,29 @@ fn fault_number(why: Fault) -> u64
     }
 }
 
-fn write_refusal(why: WriteRefusal) -> Reply
-    ensures { result ≡ write_refusal why }
-{
-    match why {
-        WriteRefusal::BadSlot => nothing(19),
-        WriteRefusal::Bad(fault) => nothing(fault_number(fault)),
+impl Tells for WriteRefusal {
+    ghost reply = { write_refusal };
+
+    fn reply(self) -> Reply {
+        match self {
+            WriteRefusal::BadSlot => nothing(19),
+            WriteRefusal::Bad(fault) => nothing(fault_number(fault)),
+        }
     }
 }
 
-pub fn write_reply(a: Result<(), WriteRefusal>) -> Reply
-    ensures { result ≡ write_reply a }
-{
-    match a {
-        Err(why) => write_refusal(why),
-        Ok(()) => nothing(0),
-    }
-}
+impl Tells for BatchRefusal {
+    ghost reply = { batch_refusal };
 
-fn batch_refusal(why: BatchRefusal) -> Reply
-    ensures { result ≡ batch_refusal why }
-{
-    match why {
-        BatchRefusal::Image(r) => image_reply(r),
-        BatchRefusal::BadQueue => nothing(4),
-        BatchRefusal::BadCommand(i, fault) => Reply {
-            code: fault_number(fault),
-            words: [i as u64, 0, 0, 0, 0, 0, 0, 0],
-        },
-        BatchRefusal::NoRoom => nothing(22),
-    }
-}
-
-pub fn batch_reply(a: Result<(), BatchRefusal>) -> Reply
-    ensures { result ≡ batch_reply a }
-{
-    match a {
-        Err(why) => batch_refusal(why),
-        Ok(()) => nothing(0),
+    fn reply(self) -> Reply {
+        match self {
+            BatchRefusal::Image(why) => why.reply(),
+            BatchRefusal::BadQueue => nothing(4),
+            BatchRefusal::BadCommand(i, fault) => Reply {
+                code: fault_number(fault),
+                words: [i as u64, 0, 0, 0, 0, 0, 0, 0],
+            },
+            BatchRefusal::NoRoom => nothing(22),
+        }
     }
 }
