@@ -60,6 +60,10 @@ def functions(text):
         # the clauses of a contract have braces of their own, each after requires or ensures
         while True:
             opened = text.index('{', at)
+            # a trait's method that it leaves to its impls has no body
+            declared = ';' in re.sub(r'\[[^\]]*\]', '', text[at:opened])
+            if declared:
+                break
             clause = re.search(r'(requires|ensures|ghost)\b[^{}]*$', text[at:opened])
             depth, at = 1, opened + 1
             while depth:
@@ -67,7 +71,8 @@ def functions(text):
                 at += 1
             if not clause:
                 break
-        yield found.group(1), params, text[opened:at]
+        if not declared:
+            yield found.group(1), params, text[opened:at]
 
 
 def places(tokens):
