@@ -37,7 +37,7 @@ use Rattle.control_calls.specs.Calls as control-calls
 use Rattle.transactions.specs.declared.Transaction.{Transaction}
 use Rattle.transactions.specs.Call as transactions
 use Rattle.due.specs.declared.Raising.{Raising}
-use Rattle.memory.specs.Memory.{Memory, rows_in}
+use Rattle.memory.specs.Memory.{Memory}
 use Rattle.regions.specs.declared.Region.{Region}
 use Rattle.regions.specs.declared.Refusal.{Refusal as regions·Refusal}
 use Rattle.regions.specs.declared.Refusal.TheVariants.{BadLength as regions·BadLength, BadRow as regions·BadRow}
@@ -51,7 +51,6 @@ use Rattle.writer.specs.Writing as writer
 use Rattle.batch_writes.specs.declared.BatchRefusal.TheVariants.{NoRoom}
 use Rattle.batch_writes.specs.Batch as batch
 use Rattle.batch_writes.specs.Batch.{Lent}
-use Rattle.batches.specs.declared.Batch.TheVariants.{Original, Proposed}
 use Rattle.batches.specs.Batches as batches
 use Rattle.promises.specs.Numbers.{run_number, check_number, fill_number, table_fill_number, doorbell_number, acknowledge_number, clear_number, enable_number, translate_number, Rule, first, of_image, of_table, of_run, of_check, of_doorbell, of_acknowledge, of_clear, of_fill, of_table_fill, of_transaction, run_ends, fill_ends, write_number, of_write, batch_number, first_lacks, first_unfit, of_batch}
 
@@ -204,7 +203,7 @@ write-number f d slot =
     by_tests false false = refl
 
 pub number_of_batch : (f : Features) (ws : List ℕ) (m : Lent) → batch_number (batch.write_batch f ws m).answer ≡ first (of_image m.kept ++ of_batch f ws m)
-unfolding batch.write_batch
+unfolding batch.write_batch batch.judged_from
 number_of_batch f ws m =
     image-first m.kept number _ _ (of_batch f ws m) (λ why. refl)
     (λ rows e. through number (not (eqb (length m.queue) (writer.slot_size * 2 ^ control.log2size w))) _ _
@@ -235,6 +234,5 @@ number_of_batch f ws m =
     or_later i (Ok c) later h = h
 
     judged : (k i : ℕ) → Numbered (batch.judged_from f ws k i)
-    unfolding batch.judged_from
     judged zero i = by_room (ltb (batch.free_in w) n)
     judged (suc k) i = or_later i (batch.judged_at f ws i) (batch.judged_from f ws k (suc i)) (judged k (suc i))
