@@ -1,108 +1,195 @@
-// The calls, through the C interface but for a transaction's.
-use crate::show;
-use attributes::Attributes;
-use std::io;
+// The calls that a line asks for, and what they tell. A call that may store also tells every word afterwards of what it stores to.
+use script::{Call, Line, Listed, Refusal, World, accepted};
+use std::alloc::AllocError;
 use std::io::Write;
+use std::{fmt, io};
 
-// c asks for the state; r runs with features and an allowance, and u tells the second table too; f fills a row with four words under
-// an allowance; g fills one of the second table with two; d rings with a WR; a acknowledges; p clears the pending bit; e enables or
-// disables; t translates. b checks, under features, the batch that ends at one byte of the queue beside that which begins at
-// another. Of a recorder w writes four words under an allowance, o reads the oldest, x acknowledges. A call that may store also tells
-// every word afterwards of what it stores to.
-pub fn call(
-    out: &mut impl Write,
-    verb: u8,
-    w: [u64; 8],
-    kept: &mut [u64],
-    table: &mut [u64],
-    queue: &[u8],
-) -> io::Result<()> {
-    let mut answer = [0u64; 8];
-    let code = made(verb, w, &mut *kept, &mut *table, queue, &mut answer);
-    show::reply(&mut *out, verb, code, answer)?;
-    match verb {
-        b'b' | b'c' | b't' => text::say(&mut *out, b"\n"),
-        b'g' => text::listed(&mut *out, b"; table", &*table),
-        b'u' => {
-            text::listed(&mut *out, b"; kept", &*kept)?;
-            text::listed(&mut *out, b"  table", &*table)
+// c asks for the state. b checks, under features, the batch that ends at one byte of the queue beside that which begins at
+// another. u runs and tells the second table too. The other letters are those of every script.
+#[derive(Clone, Copy)]
+pub enum Step {
+    State,
+    Check(Batches),
+    RunOnBoth(Call),
+    Call(Call),
+}
+
+impl Step {
+    pub fn of(line: &Line) -> Result<Self, AllocError> {
+        let w = line.words::<8>()?;
+        Ok(match line.letter {
+            b'c' => Step::State,
+            b'b' => Step::Check(Batches {
+                features: w[0],
+                end: w[1] as usize,
+                start: w[2] as usize,
+            }),
+            b'u' => Step::RunOnBoth(Call::Run {
+                features: w[0],
+                allowance: w[1],
+            }),
+            _ => Step::Call(Call::of(line)?),
+        })
+    }
+
+    pub fn make(self, out: &mut impl Write, world: World<'_>) -> io::Result<()> {
+        let World { kept, table, queue } = world;
+        let world = World {
+            kept: &mut *kept,
+            table: &mut *table,
+            queue,
+        };
+        match self {
+            Step::State => {
+                tell(&mut *out, state_of(kept))?;
+                writeln!(out)
+            }
+            Step::Check(batches) => {
+                tell(&mut *out, batches.checked(kept, table, queue))?;
+                writeln!(out)
+            }
+            Step::RunOnBoth(call) => {
+                tell(&mut *out, call.make(world))?;
+                writeln!(out, "; kept{}", Listed(kept))?;
+                writeln!(out, "  table{}", Listed(table))
+            }
+            Step::Call(call) => {
+                tell(&mut *out, call.make(world))?;
+                match call {
+                    Call::Translate(_) => writeln!(out),
+                    Call::TableFill { .. } => writeln!(out, "; table{}", Listed(table)),
+                    _ => writeln!(out, "; kept{}", Listed(kept)),
+                }
+            }
         }
-        _ => text::listed(&mut *out, b"; kept", &*kept),
     }
 }
 
-fn made(
-    verb: u8,
-    w: [u64; 8],
-    kept: &mut [u64],
-    table: &mut [u64],
-    queue: &[u8],
-    answer: &mut [u64; 8],
-) -> u64 {
-    match verb {
-        b'c' => host::tahvenno_state(&*kept, &mut *answer),
-        b'r' | b'u' => host::tahvenno_run(&mut *kept, &mut *table, queue, w[0], w[1], &mut *answer),
-        b'f' => host::tahvenno_fill(&mut *kept, w[0], w[1], w[2], w[3], w[4], w[5], &mut *answer),
-        b'g' => host::tahvenno_table_fill(
-            &*kept,
-            &mut *table,
-            w[0],
-            w[1],
-            w[2],
-            w[3],
-            &mut *answer,
-        ),
-        b'b' => checked(&*kept, &*table, queue, w, &mut *answer),
-        b'd' => host::tahvenno_doorbell(&mut *kept, w[0], &mut *answer),
-        b'a' => host::tahvenno_acknowledge(&mut *kept, &mut *answer),
-        b'p' => host::tahvenno_clear_pending(&mut *kept, &mut *answer),
-        b'e' => host::tahvenno_enable(&mut *kept, w[0], &mut *answer),
-        b'w' => written(&mut *kept, w, &mut *answer),
-        b'o' => host::tahvenno_event_read(&mut *kept, &mut *answer),
-        b'x' => host::tahvenno_event_acknowledge(&mut *kept, &mut *answer),
-        _ => translated(&*kept, w, &mut *answer),
+fn tell<T: fmt::Display + Drop>(out: &mut impl Write, reply: Result<T, Refusal>) -> io::Result<()> {
+    match reply {
+        Ok(told) => write!(out, "{told}"),
+        Err(why) => write!(out, "{why}"),
     }
 }
 
-// Where the queue has no such bytes, nothing is asked.
-fn checked(kept: &[u64], table: &[u64], queue: &[u8], w: [u64; 8], answer: &mut [u64; 8]) -> u64 {
-    let end = w[1] as usize;
-    let start = w[2] as usize;
-    if queue.len() < end {
-        return 0;
-    }
-    if queue.len() < start {
-        return 0;
-    }
-    host::tahvenno_check_batch(
-        kept,
-        table,
-        &queue[..end],
-        &queue[start..],
-        w[0],
-        &mut *answer,
-    )
+// The state of a kept memory.
+#[derive(Clone, Copy)]
+struct State {
+    rd: u64,
+    wr: u64,
+    err: u64,
+    active: u64,
+    enabled: u64,
+    used: u64,
 }
 
-fn written(events: &mut [u64], w: [u64; 8], answer: &mut [u64; 8]) -> u64 {
-    let mut bytes = [0u8; 32];
-    text::spread([32, 0, w[0], w[1], w[2], w[3], 0, 0], &mut bytes);
-    host::tahvenno_event_write(&mut *events, &bytes, w[4], &mut *answer)
+fn state_of(kept: &[u64]) -> Result<State, Refusal> {
+    let mut words = [0; 8];
+    let number = host::tahvenno_state(kept, &mut words);
+    let w = accepted(number, words)?;
+    Ok(State {
+        rd: w[0],
+        wr: w[1],
+        err: w[2],
+        active: w[3],
+        enabled: w[4],
+        used: w[5],
+    })
 }
 
-// StreamID, SubstreamID, address, how, MemAttr, SH, hints. How: 1 write, 2 instruction, 4 privileged. C's StreamID and
-// SubstreamID have 32 bits, and the unit takes wider ones too, so they are put in behind.
-fn translated(kept: &[u64], w: [u64; 8], answer: &mut [u64; 8]) -> u64 {
-    let a = Attributes {
-        memattr: w[4],
-        sh: w[5],
-        hints: w[6],
-    };
-    let mut t = interface::transaction_of(0, 0, w[2], w[3], a);
-    t.stream = w[0];
-    t.substream = w[1];
-    let r = transactions::translate(kept, t).reply();
-    let words = r.words;
-    *answer = words;
-    r.code
+// The batch that ends at one byte of the queue, and that which begins at another.
+#[derive(Clone, Copy)]
+pub struct Batches {
+    features: u64,
+    end: usize,
+    start: usize,
+}
+
+impl Batches {
+    // Where the queue has no such bytes, nothing is asked.
+    fn checked(self, kept: &[u64], table: &[u64], queue: &[u8]) -> Result<Checked, Refusal> {
+        let Some(original) = queue.get(..self.end) else {
+            return Ok(Checked::Same);
+        };
+        let Some(proposed) = queue.get(self.start..) else {
+            return Ok(Checked::Same);
+        };
+        let mut words = [0; 8];
+        let number = host::tahvenno_check_batch(
+            kept,
+            table,
+            original,
+            proposed,
+            self.features,
+            &mut words,
+        );
+        Ok(Checked::of(accepted(number, words)?))
+    }
+}
+
+// What the check of a batch found, both counted from 0.
+#[derive(Clone, Copy)]
+enum Checked {
+    Same,
+    Unfit { batch: Batch, command: u64 },
+    Differ { row: u64 },
+}
+
+#[derive(Clone, Copy)]
+enum Batch {
+    Original,
+    Proposed,
+}
+
+impl Checked {
+    fn of(w: [u64; 8]) -> Self {
+        match w[0] {
+            0 => Checked::Same,
+            1 => Checked::Unfit {
+                batch: if w[1] == 0 {
+                    Batch::Original
+                } else {
+                    Batch::Proposed
+                },
+                command: w[2],
+            },
+            _ => Checked::Differ { row: w[1] },
+        }
+    }
+}
+
+impl fmt::Display for State {
+    fn fmt<W: fmt::Write>(&self, f: &mut fmt::Formatter<W>) -> fmt::Result {
+        let State {
+            rd,
+            wr,
+            err,
+            active,
+            enabled,
+            used,
+        } = *self;
+        write!(f, "accepted, RD 0x{rd:x}, WR 0x{wr:x}, ERR {err}, ")?;
+        write!(f, "active {active}, enabled {enabled}, used {used}")
+    }
+}
+
+impl fmt::Display for Checked {
+    fn fmt<W: fmt::Write>(&self, f: &mut fmt::Formatter<W>) -> fmt::Result {
+        match *self {
+            Checked::Same => f.write_str("yes"),
+            Checked::Unfit { batch, command } => {
+                write!(f, "command {command} of the {batch} batch")
+            }
+            Checked::Differ { row } => write!(f, "row {row} differs"),
+        }
+    }
+}
+
+impl fmt::Display for Batch {
+    fn fmt<W: fmt::Write>(&self, f: &mut fmt::Formatter<W>) -> fmt::Result {
+        f.write_str(match *self {
+            Batch::Original => "original",
+            Batch::Proposed => "proposed",
+        })
+    }
 }

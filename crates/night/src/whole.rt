@@ -1,158 +1,131 @@
-// The night that stands in the input, in the form of `cases`. k has the control word, + a row behind it; s the words of the second
-// table, v those of the recorder; q the queue. The other letters make a call, whose answer and stores are a line of output.
-ghost use Rattle.std.specs.Prelude.{◌<◌};
-
-use crate::list::{BYTES, CALLS, KEPT, List, Memory, RING, TABLE};
-use crate::made::made;
-use crate::{list, made};
+// The night that stands in the input, a script. k has the control word, + a row behind it; s the words of the second table, v those
+// of the recorder; q the queue. The other letters make a call, whose answer and stores are a line of output.
+use crate::memories::{Made, Memory};
+use script::{Answer, Call, Line, Lines, Outcome, spread};
+use std::alloc::Global;
 use std::io;
 use std::io::{Read, Write};
-use text::told;
 
-// The calls with what came of them, how many there are, the memories before and after, and the stores of all.
-#[derive(Clone, Copy)]
+// The most calls.
+const CALLS: usize = 24;
+
+// The calls with what came of them, the memories before and after, and the stores of all.
+#[derive(Drop)]
 pub struct Whole {
-    pub list: List,
-    pub count: usize,
+    pub calls: Vec<Made>,
     pub start: Memory,
-    pub memory: Memory,
+    pub end: Memory,
     pub stores: u64,
-}
-
-// Reads what the night begins with; answers the first call's letter.
-pub fn begin(
-    input: &mut impl Read,
-    out: &mut impl Write,
-    kept: &mut [u64; KEPT],
-    table: &mut [u64; TABLE],
-    ring: &mut [u64; RING],
-    queue: &mut [u8; BYTES],
-) -> io::Result<u8> {
-    let mut words = 0;
-    for _ in 0..u64::MAX {
-        let verb = text::next(&mut *input)?;
-        match verb {
-            b'k' => words = filled(&mut *input, &mut *out, &mut *kept, 0)?,
-            b'+' => words = filled(&mut *input, &mut *out, &mut *kept, words)?,
-            b's' => {
-                filled(&mut *input, &mut *out, &mut *table, 0)?;
-            }
-            b'v' => {
-                filled(&mut *input, &mut *out, &mut *ring, 0)?;
-            }
-            b'q' => commands(&mut *input, &mut *out, &mut *queue)?,
-            _ => return Ok(verb),
-        }
-    }
-    Ok(0)
-}
-
-// Puts a line's words behind the first n, and answers how many there are then.
-fn filled(
-    input: &mut impl Read,
-    out: &mut impl Write,
-    to: &mut [u64],
-    n: usize,
-) -> io::Result<usize> {
-    text::say(&mut *out, b"  ")?;
-    text::label(&mut *input, &mut *out, true)?;
-    let m = text::words(&mut *input, &mut *to, n)?;
-    text::say(&mut *out, b"at the start\n")?;
-    Ok(m)
-}
-
-fn commands(
-    input: &mut impl Read,
-    out: &mut impl Write,
-    queue: &mut [u8; BYTES],
-) -> io::Result<()> {
-    text::say(&mut *out, b"  ")?;
-    text::label(&mut *input, &mut *out, true)?;
-    let w = text::eight(&mut *input)?;
-    text::spread(w, &mut *queue);
-    text::say(&mut *out, b"at the start\n")
 }
 
 // The calls without a cut, each as it is read.
 pub fn play(
-    input: &mut impl Read,
+    alloc: Global,
+    lines: &mut Lines<impl Read + Drop>,
     out: &mut impl Write,
-    first: u8,
-    start: Memory,
-    queue: &[u8; BYTES],
 ) -> io::Result<Whole> {
-    let mut verb = first;
+    let mut start = Memory::new();
+    let mut next = begin(alloc, &mut *lines, &mut *out, &mut start)?;
     let mut whole = Whole {
-        list: list::none(),
-        count: 0,
-        start: start,
-        memory: start,
+        calls: Vec::new(alloc),
+        start,
+        end: start,
         stores: 0,
     };
-    for i in 0..CALLS {
-        if verb == 0 {
+    for _ in 0..CALLS {
+        let Some(line) = next else {
             return Ok(whole);
-        }
-        whole = step(&mut *input, &mut *out, whole, i, verb, queue)?;
-        verb = text::next(&mut *input)?;
+        };
+        whole.step(&mut *out, &line)?;
+        next = lines.read()?;
     }
     Ok(whole)
 }
 
-fn step(
-    input: &mut impl Read,
+// Reads what the night begins with; answers the first call's line.
+fn begin(
+    alloc: Global,
+    lines: &mut Lines<impl Read + Drop>,
     out: &mut impl Write,
-    whole: Whole,
-    i: usize,
-    verb: u8,
-    queue: &[u8; BYTES],
-) -> io::Result<Whole>
-    requires { i < 24 }
-{
-    let before = whole.memory;
-    let calls = whole.list;
-    let start = whole.start;
-    text::say(&mut *out, b"  ")?;
-    text::label(&mut *input, &mut *out, true)?;
-    let w = text::eight(&mut *input)?;
-    let m = made(verb, w, before, queue);
-    let after = m.memory;
-    let answer = m.answer;
-    let stores = made::stores(verb, m.code, answer);
-    shown(&mut *out, verb, m.code, answer)?;
-    told(&mut *out, b", stores #\n", [stores, 0, 0, 0, 0, 0, 0, 0])?;
-    Ok(Whole {
-        list: list::with(calls, i, verb, w, m),
-        count: i + 1,
-        start: start,
-        memory: after,
-        stores: std::num::wrapping_add_u64(whole.stores, stores),
-    })
+    memory: &mut Memory,
+) -> io::Result<Option<Line>> {
+    let mut kept = Vec::new(alloc);
+    for _ in 0..u64::MAX {
+        let Some(line) = lines.read()? else {
+            return Ok(None);
+        };
+        match line.letter {
+            b'k' => {
+                kept.clear();
+                fill(&mut *out, &line, &mut kept, &mut memory.kept)?;
+            }
+            b'+' => fill(&mut *out, &line, &mut kept, &mut memory.kept)?,
+            b's' => fill(&mut *out, &line, &mut Vec::new(alloc), &mut memory.table)?,
+            b'v' => fill(&mut *out, &line, &mut Vec::new(alloc), &mut memory.ring)?,
+            b'q' => fill_queue(&mut *out, &line, &mut *memory)?,
+            _ => return Ok(Some(line)),
+        }
+    }
+    Ok(None)
+}
+
+// Puts a line's words behind those that are given already, and all of them into a memory.
+fn fill(
+    out: &mut impl Write,
+    line: &Line,
+    given: &mut Vec<u64>,
+    memory: &mut [u64],
+) -> io::Result<()> {
+    tell(&mut *out, line)?;
+    line.add_to(&mut *given, memory.len())?;
+    for (to, word) in memory.iter_mut().zip(given.iter()) {
+        *to = *word;
+    }
+    writeln!(out, "at the start")
+}
+
+fn fill_queue(out: &mut impl Write, line: &Line, memory: &mut Memory) -> io::Result<()> {
+    tell(&mut *out, line)?;
+    spread(&line.words::<8>()?, &mut memory.queue);
+    writeln!(out, "at the start")
+}
+
+fn tell(out: &mut impl Write, line: &Line) -> io::Result<()> {
+    write!(out, "  ")?;
+    line.tell(&mut *out)
+}
+
+impl Whole {
+    fn step(&mut self, out: &mut impl Write, line: &Line) -> io::Result<()> {
+        tell(&mut *out, line)?;
+        let made = self.end.make(Call::of(line)?);
+        let stores = made.stores();
+        shown(&mut *out, &made)?;
+        writeln!(out, ", stores {stores}")?;
+        self.calls.push(made)?;
+        self.stores = self.stores.wrapping_add(stores);
+        Ok(())
+    }
 }
 
 // What a call tells but for its counts.
-fn shown(out: &mut impl Write, verb: u8, code: u64, w: [u64; 8]) -> io::Result<()> {
-    if code != 0 {
-        return told(&mut *out, b"refused #", [code, 0, 0, 0, 0, 0, 0, 0]);
-    }
-    match verb {
-        b'r' => told(&mut *out, b"{Off|Held|Empty|Raised|Cut}", w),
-        b'f' | b'g' => told(&mut *out, b"{Filled|Cut}", w),
-        b'w' => told(&mut *out, b"{Stored|Dropped|Cut}", w),
-        b'o' => told(&mut *out, b"record 0x$ 0x$ 0x$ 0x$", w),
-        b't' => outcome(&mut *out, w),
-        _ => text::say(&mut *out, b"done"),
-    }
-}
-
-fn outcome(out: &mut impl Write, w: [u64; 8]) -> io::Result<()> {
-    if w[0] == 0 {
-        told(&mut *out, b"{address 0x}$", w)
-    } else {
-        told(
-            &mut *out,
-            b"{|abort|miss STE|miss CD|miss stage 1|miss stage 2}",
-            w,
-        )
+fn shown(out: &mut impl Write, made: &Made) -> io::Result<()> {
+    match made.reply {
+        Ok(Answer::Ran(run)) => write!(out, "{}", run.end),
+        Ok(Answer::Filled { end, .. }) => write!(out, "{end}"),
+        Ok(Answer::Recorded { end, .. }) => write!(out, "{end}"),
+        Ok(Answer::Oldest(w)) => {
+            write!(
+                out,
+                "record 0x{:x} 0x{:x} 0x{:x} 0x{:x}",
+                w[0], w[1], w[2], w[3]
+            )
+        }
+        Ok(Answer::Translated(Outcome::Address(output))) => {
+            write!(out, "address 0x{:x}", output.address)
+        }
+        Ok(Answer::Translated(outcome)) => write!(out, "{outcome}"),
+        Ok(_) => write!(out, "done"),
+        Err(why) => write!(out, "refused {}", why.number),
     }
 }

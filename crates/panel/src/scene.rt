@@ -1,54 +1,133 @@
-// A ring of two slots, both written and read out before, and a record for it: what, aisle, degrees, minute.
+// A ring of two slots, both written and read out before, and a record for it.
+use script::{Answer, Call, Refusal, World};
+use std::fmt;
 
 // n 1, RD 2, WR 2; and with WR moved on.
 const INDEX: u64 = 0x400_0020_0002;
 
 const WRITTEN: u64 = 0x400_0030_0002;
 
-pub fn old_fire() -> [u64; 8] {
-    [1, 3, 70, 17, 0, 0, 0, 0]
+pub const OLD_FIRE: Event = Event {
+    what: What::Fire,
+    aisle: 3,
+    degrees: 70,
+    minute: 17,
+};
+
+pub const OLD_FAULT: Event = Event {
+    what: What::WarmFreezer,
+    aisle: 5,
+    degrees: 1,
+    minute: 480,
+};
+
+pub const FAULT: Event = Event {
+    what: What::WarmFreezer,
+    aisle: 8,
+    degrees: 4,
+    minute: 1380,
+};
+
+#[derive(Clone, Copy)]
+pub enum What {
+    Fire,
+    WarmFreezer,
 }
 
-pub fn old_fault() -> [u64; 8] {
-    [2, 5, 1, 480, 0, 0, 0, 0]
+#[derive(Clone, Copy)]
+pub struct Event {
+    what: What,
+    aisle: u64,
+    degrees: u64,
+    minute: u64,
 }
 
-pub fn ring() -> [u64; 9] {
-    let a = old_fire();
-    let b = old_fault();
-    [INDEX, a[0], a[1], a[2], a[3], b[0], b[1], b[2], b[3]]
+impl Event {
+    fn words(self) -> [u64; 4] {
+        let what = match self.what {
+            What::Fire => 1,
+            What::WarmFreezer => 2,
+        };
+        [what, self.aisle, self.degrees, self.minute]
+    }
 }
 
-pub fn fault() -> [u64; 8] {
-    [2, 8, 4, 1380, 0, 0, 0, 0]
+impl From<[u64; 4]> for Event {
+    fn from([what, aisle, degrees, minute]: [u64; 4]) -> Self {
+        let what = match what {
+            1 => What::Fire,
+            _ => What::WarmFreezer,
+        };
+        Event {
+            what,
+            aisle,
+            degrees,
+            minute,
+        }
+    }
 }
 
-// Its words, little-endian.
-pub fn bytes() -> [u8; 32] {
-    [
-        2, 0, 0, 0, 0, 0, 0, 0, 8, 0, 0, 0, 0, 0, 0, 0, 4, 0, 0, 0, 0, 0, 0, 0, 0x64, 5, 0, 0, 0,
-        0, 0, 0,
-    ]
+impl fmt::Display for Event {
+    fn fmt<W: fmt::Write>(&self, f: &mut fmt::Formatter<W>) -> fmt::Result {
+        let Event {
+            what,
+            aisle,
+            degrees,
+            minute,
+        } = *self;
+        write!(
+            f,
+            "{what}, aisle {aisle}, {degrees} degrees, minute {minute}"
+        )
+    }
 }
 
-// What a recorder leaves that stores the index first and then the words, after so many stores.
-pub fn index_first(stores: u64) -> [u64; 9] {
-    let mut left = ring();
-    let words = fault();
-    if 0 < stores {
-        left[0] = WRITTEN;
+impl fmt::Display for What {
+    fn fmt<W: fmt::Write>(&self, f: &mut fmt::Formatter<W>) -> fmt::Result {
+        f.write_str(match self {
+            What::Fire => "fire",
+            What::WarmFreezer => "a warm freezer",
+        })
     }
-    if 1 < stores {
-        left[1] = words[0];
+}
+
+#[derive(Clone, Copy)]
+pub struct Ring([u64; 9]);
+
+impl Ring {
+    pub fn before() -> Self {
+        let [a, b, c, d] = OLD_FIRE.words();
+        let [e, f, g, h] = OLD_FAULT.words();
+        Ring([INDEX, a, b, c, d, e, f, g, h])
     }
-    if 2 < stores {
-        left[2] = words[1];
+
+    // What a recorder leaves that stores the index first and then the words, after so many stores.
+    pub fn index_first(stores: usize) -> Self {
+        let [a, b, c, d] = FAULT.words();
+        let stored = [WRITTEN, a, b, c, d];
+        let mut left = Ring::before();
+        for (to, w) in left.0.iter_mut().zip(stored.iter()).take(stores) {
+            *to = *w;
+        }
+        left
     }
-    if 3 < stores {
-        left[3] = words[2];
+
+    pub fn write(&mut self, event: Event, allowance: u64) -> Result<Answer, Refusal> {
+        self.make(Call::EventWrite {
+            words: event.words(),
+            allowance,
+        })
     }
-    if 4 < stores {
-        left[4] = words[3];
+
+    pub fn read(&mut self) -> Result<Answer, Refusal> {
+        self.make(Call::EventRead)
     }
-    left
+
+    fn make(&mut self, call: Call) -> Result<Answer, Refusal> {
+        call.make(World {
+            kept: &mut self.0,
+            table: &mut [],
+            queue: &[],
+        })
+    }
 }

@@ -1,60 +1,84 @@
-// The calls, through the C interface.
-use crate::show;
+// The calls, through the C interface, what they tell, and what they leave.
+use crate::lent::Lent;
+use script::{Answer, Call, Line, Listed, World, accepted};
 use std::io;
-use std::io::{Read, Write};
+use std::io::Write;
 
 // Longer by a word than the longest slot of a case.
-pub const ROOM: usize = 40;
+const ROOM: usize = 40;
 
-// Writes a command into the first bytes of a memory of 0xa5.
-pub fn write(input: &mut impl Read, out: &mut impl Write, bytes: usize) -> io::Result<()> {
-    text::label(&mut *input, &mut *out, true)?;
-    let mut w = [0u64; 17];
-    text::words(&mut *input, &mut w, 0)?;
+// Writes a command into the first bytes of a memory of 0xa5, and tells the words that the slot reaches into.
+pub fn write(line: &Line, out: &mut impl Write, bytes: usize) -> io::Result<()> {
+    line.tell(&mut *out)?;
+    let w = line.words::<17>()?;
+    let mut fields = [0; 16];
+    fields.copy_from_slice(&w[1..]);
     let mut room = [0xa5u8; ROOM];
-    if bytes <= 32 {
-        let code = written(&mut room[..bytes], &w);
-        show::write(&mut *out, code)?;
-        show::slot(&mut *out, &room, bytes)?;
+    if 32 < bytes {
+        return Ok(());
     }
-    Ok(())
+    let mut answer = [0; 8];
+    match host::tahvenno_write_command(&mut room[..bytes], &fields, w[0], &mut answer) {
+        0 => write!(out, "written")?,
+        number => write!(out, "refused {number}")?,
+    }
+    write!(out, "; slot")?;
+    for at in (0..bytes).step_by(8) {
+        write!(out, " {:x}", words::word_at(&room, at))?;
+    }
+    writeln!(out)
 }
 
-fn written(slot: &mut [u8], w: &[u64; 17]) -> u64 {
-    let mut answer = [0u64; 8];
-    host::tahvenno_write_command(&mut *slot, &fields(w), w[0], &mut answer)
+// Writes the batch, and tells the kept memory and the queue's slots.
+pub fn write_batch(line: &Line, out: &mut impl Write, lent: &mut Lent) -> io::Result<()> {
+    line.tell(&mut *out)?;
+    let w = line.words::<8>()?;
+    let Some(queue) = &mut lent.queue else {
+        return Ok(());
+    };
+    let mut answer = [0; 8];
+    let number = host::tahvenno_write_batch(&mut lent.kept, queue, &lent.batch, w[0], &mut answer);
+    match accepted(number, answer) {
+        Ok(_) => write!(out, "written")?,
+        Err(why) => write!(out, "{why}")?,
+    }
+    writeln!(out, "; kept{}", Listed(&lent.kept))?;
+    slots(&mut *out, queue)
 }
 
-// The words behind the first.
-fn fields(w: &[u64; 17]) -> [u64; 16] {
-    let mut f = [0u64; 16];
-    let mut i = 0;
-    while i < 16 {
-        f[i] = w[i + 1];
-        i += 1;
+// The slots of a queue that are not zero, each by its number and its two words.
+fn slots(out: &mut impl Write, queue: &[u8]) -> io::Result<()> {
+    write!(out, "  slots")?;
+    for (i, slot) in queue.chunks_exact(16).enumerate() {
+        let low = words::word_at(slot, 0);
+        let high = words::word_at(slot, 8);
+        if (low, high) != (0, 0) {
+            write!(out, " {i}: {low:x} {high:x}")?;
+        }
     }
-    f
+    writeln!(out)
 }
 
-// b writes the batch, g runs. Either tells the kept memory afterwards, and b the queue's slots too.
-pub fn call(
-    out: &mut impl Write,
-    verb: u8,
-    w: [u64; 8],
-    kept: &mut [u64],
-    queue: &mut [u8],
-    batch: &[u64],
-) -> io::Result<()> {
-    let mut answer = [0u64; 8];
-    if verb == b'b' {
-        let code = host::tahvenno_write_batch(&mut *kept, &mut *queue, batch, w[0], &mut answer);
-        show::batch(&mut *out, code, answer)?;
-        text::listed(&mut *out, b"; kept", &*kept)?;
-        show::slots(&mut *out, &*queue)
-    } else {
-        let mut table = [0u64; 2];
-        let code = host::tahvenno_run(&mut *kept, &mut table, &*queue, w[0], w[1], &mut answer);
-        show::run(&mut *out, code, answer)?;
-        text::listed(&mut *out, b"; kept", &*kept)
+// Runs, and tells the kept memory.
+pub fn run(line: &Line, out: &mut impl Write, lent: &mut Lent) -> io::Result<()> {
+    line.tell(&mut *out)?;
+    let w = line.words::<8>()?;
+    let Some(queue) = &lent.queue else {
+        return Ok(());
+    };
+    let run = Call::Run {
+        features: w[0],
+        allowance: w[1],
+    };
+    let world = World {
+        kept: &mut lent.kept,
+        table: &mut [0; 2],
+        queue,
+    };
+    match run.make(world) {
+        Ok(Answer::Ran(run)) => write!(out, "{run}")?,
+        Ok(_) => {}
+        Err(why) => write!(out, "refused {}", why.number)?,
     }
+    writeln!(out, "; kept{}", Listed(&lent.kept))
 }

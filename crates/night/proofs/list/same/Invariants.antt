@@ -1,7 +1,0 @@
--- `night::list::same` is safe and ends.
--- Assumes nothing.
-use Rattle.std.proofs.Common.{◌-◌, length}
-use Rattle.night.proofs.list.same.Given as goal
-
-abbrev pub decreases-loop-i : goal.decreases-loop-i
-decreases-loop-i l = length l.a - l.i
