@@ -26,7 +26,7 @@ use Rattle.runs.specs.declared.Ran.{Ran}
 use Rattle.events.specs.declared.Refusal.{Refusal}
 use Rattle.event_calls.specs.declared.Writing.{Writing}
 use Rattle.event_calls.specs.declared.ReadRefusal.{ReadRefusal}
-use Rattle.event_calls.specs.declared.AcknowledgeRefusal.{AcknowledgeRefusal as EventCallsAcknowledgeRefusal}
+use Rattle.event_calls.specs.declared.AcknowledgeRefusal.{AcknowledgeRefusal as EventAcknowledgeRefusal}
 use Rattle.control_calls.proofs.Laws as control-calls
 use Rattle.fills.specs.declared.FillEnd.TheVariants.{Filled, Cut as Fill-as-Cut}
 use Rattle.fills.specs.declared.FillRefusal.TheVariants.{RowInUse}
@@ -183,7 +183,7 @@ pub event_acknowledge_again : (w : World) (k : ℕ) → (tried EventAcknowledge 
     → Refuses 18 EventAcknowledge (tried EventAcknowledge k w).memory
 event_acknowledge_again w k done =
     let e = one_store.acknowledge-again w.recorder done in
-    record { told = λ j. rw e; stays = λ j. ap (λ (o : Outcome (List ℕ) (Result ⊤ EventCallsAcknowledgeRefusal)). (in_recorder w o).memory) e }
+    record { told = λ j. rw e; stays = λ j. ap (λ (o : Outcome (List ℕ) (Result ⊤ EventAcknowledgeRefusal)). (in_recorder w o).memory) e }
 
 -- the first of those that wait is read
 reads_first : (m : List ℕ) (n : ℕ) → recorders.Accepts m n → (r : Record) (rest : List Record) → waiting m ≡ r ∷ rest → (read m).answer ≡ Ok r
@@ -373,6 +373,6 @@ module _ (w : World) (k : ℕ) where
   refused-again EventAcknowledge r = by_way (one_store.acknowledge-way w.recorder)
     where
       by_way : one_store.AcknowledgeWay w.recorder → StillRefused EventAcknowledge
-      by_way (one_store.stops why e) = record { nothing = ap (λ (o : Outcome (List ℕ) (Result ⊤ EventCallsAcknowledgeRefusal)). (in_recorder w o).memory) e; again = λ j. refl }
+      by_way (one_store.stops why e) = record { nothing = ap (λ (o : Outcome (List ℕ) (Result ⊤ EventAcknowledgeRefusal)). (in_recorder w o).memory) e; again = λ j. refl }
       by_way (one_store.stores n a t e) = absurd (r (rw e refl))
   refused-again (TableFill row words) r = table-fill-refused row words r

@@ -11,16 +11,16 @@ use Rattle.control_calls.specs.declared.ClearRefusal.{ClearRefusal}
 use Rattle.image.specs.declared.Refusal.{Refusal}
 use Rattle.fills.specs.declared.Filling.{Filling}
 use Rattle.fills.specs.declared.FillRefusal.{FillRefusal}
-use Rattle.region_fills.specs.declared.FillRefusal.{FillRefusal as RegionFillsFillRefusal}
+use Rattle.region_fills.specs.declared.FillRefusal.{FillRefusal as TableFillRefusal}
 use Rattle.runs.specs.declared.Ran.{Ran}
 use Rattle.runs.specs.declared.RunRefusal.{RunRefusal}
-use Rattle.transactions.specs.declared.Outcome.{Outcome}
+use Rattle.transactions.specs.declared.Outcome.{Outcome as TransactionOutcome}
 use Rattle.transactions.specs.declared.TransactionRefusal.{TransactionRefusal}
 use Rattle.event_calls.specs.declared.Writing.{Writing}
 use Rattle.events.specs.declared.Refusal.{Refusal as RecorderRefusal}
 use Rattle.events.specs.declared.Record.{Record}
 use Rattle.event_calls.specs.declared.ReadRefusal.{ReadRefusal}
-use Rattle.event_calls.specs.declared.AcknowledgeRefusal.{AcknowledgeRefusal as EventCallsAcknowledgeRefusal}
+use Rattle.event_calls.specs.declared.AcknowledgeRefusal.{AcknowledgeRefusal as EventAcknowledgeRefusal}
 use Rattle.image.specs.Image as image
 use Rattle.regions.specs.declared.Region.{Region}
 use Rattle.regions.specs.Table as regions
@@ -67,12 +67,12 @@ Answer (Enable on) = Result ⊤ Refusal
 Answer Acknowledge = Result ⊤ AcknowledgeRefusal
 Answer (Fill row words) = Result Filling FillRefusal
 Answer (Run f queue) = Result Ran RunRefusal
-Answer (Translate t) = Result Outcome TransactionRefusal
+Answer (Translate t) = Result TransactionOutcome TransactionRefusal
 Answer ClearPending = Result ⊤ ClearRefusal
 Answer (EventWrite bytes) = Result Writing RecorderRefusal
 Answer EventRead = Result Record ReadRefusal
-Answer EventAcknowledge = Result ⊤ EventCallsAcknowledgeRefusal
-Answer (TableFill row words) = Result Filling RegionFillsFillRefusal
+Answer EventAcknowledge = Result ⊤ EventAcknowledgeRefusal
+Answer (TableFill row words) = Result Filling TableFillRefusal
 
 -- a call on one part of the world: the others stay
 abbrev pub memory_of : World → Memory

@@ -4,7 +4,7 @@ use Rattle.std.specs.Prelude.{◌≡◌, ℕ, Err, Ok, Result}
 use Rattle.fills.specs.declared.FillEnd.TheVariants.{Filled}
 use Rattle.fills.specs.declared.Filling.{Filling}
 use Rattle.fills.specs.declared.FillRefusal.{FillRefusal}
-use Rattle.region_fills.specs.declared.FillRefusal.{FillRefusal as RegionFillsFillRefusal}
+use Rattle.region_fills.specs.declared.FillRefusal.{FillRefusal as TableFillRefusal}
 use Rattle.runs.specs.declared.Ran.{Ran}
 use Rattle.runs.specs.declared.RunRefusal.{RunRefusal}
 use Rattle.runs.specs.declared.End.{End}
@@ -41,7 +41,7 @@ abbrev pub EndsFilled : Result Filling FillRefusal → Type 0
 EndsFilled (Err why) = ⊥
 EndsFilled (Ok filling) = filling.end ≡ Filled
 
-abbrev pub EndsTableFilled : Result Filling RegionFillsFillRefusal → Type 0
+abbrev pub EndsTableFilled : Result Filling TableFillRefusal → Type 0
 EndsTableFilled (Err why) = ⊥
 EndsTableFilled (Ok filling) = filling.end ≡ Filled
 

@@ -12,7 +12,7 @@ use Rattle.words.specs.Search.{lowest}
 use Rattle.std.specs.Prelude.{Err, None, Ok, Option, Result, Some, ⊤}
 use Rattle.fills.specs.declared.Filling.{Filling}
 use Rattle.fills.specs.declared.FillRefusal.{FillRefusal}
-use Rattle.region_fills.specs.declared.FillRefusal.{FillRefusal as RegionFillsFillRefusal}
+use Rattle.region_fills.specs.declared.FillRefusal.{FillRefusal as TableFillRefusal}
 use Rattle.writer.specs.declared.WriteRefusal.{WriteRefusal}
 use Rattle.batch_writes.specs.declared.BatchRefusal.{BatchRefusal}
 use Rattle.words.proofs.Truth.{through}
@@ -125,7 +125,7 @@ pub number_of_table_fill : (m t : List ℕ) (row : ℕ) (words : Region) (k : �
     → table_fill_number (region-fills.fill m t row words k).answer ≡ first (of_image m ++ of_table t ++ of_table_fill t row words)
 unfolding region-fills.fill region-fills.fill_row
 number_of_table_fill m t row words k =
-    let number : Outcome (List ℕ) (Result Filling RegionFillsFillRefusal) → ℕ = of_answer table_fill_number in
+    let number : Outcome (List ℕ) (Result Filling TableFillRefusal) → ℕ = of_answer table_fill_number in
     image-first m number _ _ (of_table t ++ of_table_fill t row words) (λ why. refl)
     (λ n e. table-first t number _ _ (of_table_fill t row words) (λ why. refl)
     (λ r g. rw (regions·rows-are t r ((regions·says t).accepted r g).size)

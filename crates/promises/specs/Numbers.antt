@@ -13,7 +13,7 @@ use Rattle.control_calls.specs.declared.ClearRefusal.{ClearRefusal}
 use Rattle.image.specs.declared.Refusal.{Refusal}
 use Rattle.transactions.specs.declared.Outcome.{Outcome}
 use Rattle.transactions.specs.declared.TransactionRefusal.{TransactionRefusal}
-use Rattle.region_fills.specs.declared.FillRefusal.{FillRefusal as RegionFillsFillRefusal}
+use Rattle.region_fills.specs.declared.FillRefusal.{FillRefusal as TableFillRefusal}
 use Rattle.writer.specs.declared.WriteRefusal.{WriteRefusal}
 use Rattle.batch_writes.specs.declared.BatchRefusal.{BatchRefusal}
 use Rattle.batch_writes.specs.declared.BatchRefusal.TheVariants.{Image, BadQueue, BadCommand, NoRoom}
@@ -56,7 +56,7 @@ abbrev pub fill_number : Result Filling FillRefusal → ℕ
 fill_number (Err why) = fills.number why
 fill_number (Ok filling) = 0
 
-abbrev pub table_fill_number : Result Filling RegionFillsFillRefusal → ℕ
+abbrev pub table_fill_number : Result Filling TableFillRefusal → ℕ
 table_fill_number (Err why) = region-fills.number why
 table_fill_number (Ok filling) = 0
 
