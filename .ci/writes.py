@@ -39,7 +39,7 @@ STORES = {**LENT, **OTHER}
 # What a function lends last: a batch's doorbell comes behind all that is written to the queue.
 LAST = {('batch_writes', 'write_batch'): 'ring'}
 # No part of the unit: they read and write text for the programs, and no crate of the unit rests on them.
-OUTSIDE = {'text', 'command_text'}
+OUTSIDE = {'text', 'command_text', 'script'}
 # It fills its caller's array, in a loop. So nothing but an array of its caller's own is handed to it.
 GATHERS = ('image_state', 'gather')
 
