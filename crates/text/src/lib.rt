@@ -1,10 +1,8 @@
-// What the programs read and write: words in lines of standard input, and text with words in it on standard output.
+// What the programs share: words and digits in hex, and what is told of a file that the system refuses.
 #![tactic(auto)]
 
+mod failures;
 mod hex;
-mod input;
-mod output;
 
+pub use failures::fail;
 pub use hex::{Hex, digit};
-pub use input::{eight, label, next, read_full, spread, words};
-pub use output::{bit, fail, listed, one, say, three, told, two};

@@ -1,9 +1,0 @@
--- what was read fits, and each turn reads a byte at least
-use Rattle.std.proofs.Common.{length, ◌-◌, ◌≤◌}
-use Rattle.text.proofs.input.read_full.Given as goal
-
-abbrev pub invariant-loop-done : goal.invariant-loop-done
-invariant-loop-done g l = l.done ≤ length l.to
-
-abbrev pub decreases-loop-done : goal.decreases-loop-done
-decreases-loop-done g l = length l.to - l.done
