@@ -4,7 +4,7 @@ use Rattle.std.proofs.Common.{◌≡◌, ℕ, ◌+◌, ◌*◌, ◌%◌, ◌^◌
 use lib.Bits.{bit_and}
 use Rattle.words.specs.Choice.{pick}
 use Rattle.words.proofs.Parts.{part_lt}
-use Rattle.words.proofs.Search.{Wider}
+use Rattle.words.proofs.Search.{Wider, lets_through}
 use Rattle.words.proofs.Spans.{first-ends-later, second-ends-later}
 use Rattle.words.proofs.Truth.{left, right, and_true, decided}
 use Rattle.rows.specs.declared.Row.{Row}
@@ -14,7 +14,6 @@ use Rattle.screens.specs.declared.Screen.{Screen}
 use Rattle.screens.specs.Places.{stream_mask, answer_mask, answer_vmid_mask, of_answer}
 use Rattle.screens.specs.Screens.{named, reaching, passes, passes_at}
 use Rattle.screens.proofs.Answerers.{answers-used, stream-named, stage-word, stage-marked}
-use Rattle.screens.proofs.Asking.{lets_through}
 use Rattle.screens.proofs.Distances.{shares-about}
 use Rattle.doubles.specs.Doubles.{same_stream, shares_address, shares_stage, shares_asid, shares, collides, collides_at, more_bytes, screen_of}
 use Rattle.doubles.proofs.Laws.{Both, both}
@@ -86,4 +85,4 @@ let_through kept words s f e j c = rw e (screened words (row_at kept j) (f (4 * 
 
 pub wider : (kept : List ℕ) (n : ℕ) (words : Row) (s : Screen) → ((k : ℕ) → get_or kept k 0 < 2 ^ 64) → s ≡ screen_of words
     → Wider (collides_at kept words) (passes_at s kept) n n
-wider kept n words s f e = lets_through (let_through kept words s f e)
+wider kept n words s f e = lets_through (λ j h. let_through kept words s f e j)

@@ -7,7 +7,7 @@ use Prim.Native.Nat.{ℕ, ◌+◌}
 use native.Mathlib.Omega.{arith}
 use lib.Dec.{eqb}
 use borrow.Author.Tests.{eqb-true}
-use Rattle.words.proofs.Search.{Wider}
+use Rattle.words.proofs.Search.{Wider, lets_through}
 use Rattle.words.proofs.Truth.{left, right, and_true}
 use Rattle.rows.specs.declared.Row.{Row}
 use Rattle.rows.specs.Rows as rows
@@ -17,7 +17,6 @@ use Rattle.screens.specs.declared.Screen.{Screen}
 use Rattle.screens.specs.Places.{answer_vmid_mask, of_answer, of_vmid}
 use Rattle.screens.specs.Screens.{passes, passes_at, covering}
 use Rattle.screens.proofs.Answerers.{vmid-placed, answers-used, stream-named, stage-marked}
-use Rattle.screens.proofs.Asking.{lets_through}
 use Rattle.screens.proofs.Distances.{covers-near}
 use Rattle.lookups.specs.declared.Wanted.{Wanted}
 use Rattle.lookups.specs.declared.Wanted.TheVariants.{Ste, Cd, Stage1, Stage2}
@@ -83,4 +82,4 @@ unfolding answers_at
 let_through kept w s e j a = rw e (screened (row_at kept j) w a)
 
 pub wider : (kept : List ℕ) (w : Wanted) (s : Screen) → s ≡ screen_of w → Wider (answers_at kept w) (passes_at s kept) (rows_in kept) (rows_in kept)
-wider kept w s e = lets_through (let_through kept w s e)
+wider kept w s e = lets_through (λ j h. let_through kept w s e j)

@@ -2,7 +2,6 @@ pub mod Ranges
 pub mod Laws
 pub mod OtherKinds
 mod OtherCommands
-pub mod Cases
 pub mod Blocks
 pub mod Containments
 pub mod Sorts

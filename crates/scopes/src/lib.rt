@@ -193,7 +193,8 @@ pub fn open_bits(range: u64) -> u64
     words::part(range, 4, 0) + 1
 }
 
-// The table's last column, a function for each code.
+// The table's last column, a function for each code, also where two are alike but for a kind: the table has a line for each.
+#[tactic(auto, unfolding(crate::specs::Scopes::removes))]
 fn removes_03(row: Row, stream: u64, leaf: bool) -> bool
     ensures { result ≡ removes (CfgiSte stream leaf) row }
 {
@@ -201,6 +202,7 @@ fn removes_03(row: Row, stream: u64, leaf: bool) -> bool
     (ste_of(row, block) & !spared(row, leaf)) | cd_of(row, block)
 }
 
+#[tactic(auto, unfolding(crate::specs::Scopes::removes))]
 fn removes_04(row: Row, stream: u64, range: u64) -> bool
     ensures { result ≡ removes (CfgiSteRange stream range) row }
 {
@@ -211,30 +213,35 @@ fn removes_04(row: Row, stream: u64, range: u64) -> bool
     ste_of(row, block) | cd_of(row, block)
 }
 
+#[tactic(auto, unfolding(crate::specs::Scopes::removes))]
 fn removes_05(row: Row, substream: u64, stream: u64, leaf: bool) -> bool
     ensures { result ≡ removes (CfgiCd substream stream leaf) row }
 {
     cd_at(row, stream, substream) & !spared(row, leaf)
 }
 
+#[tactic(auto, unfolding(crate::specs::Scopes::removes))]
 fn removes_06(row: Row, stream: u64) -> bool
     ensures { result ≡ removes (CfgiCdAll stream) row }
 {
     cd_of(row, Block { stream, span: 0 })
 }
 
+#[tactic(auto, unfolding(crate::specs::Scopes::removes))]
 fn removes_10(row: Row, vmid: u64) -> bool
     ensures { result ≡ removes (TlbiNhAll vmid) row }
 {
     stage_of(row, Kind::Stage1, vmid)
 }
 
+#[tactic(auto, unfolding(crate::specs::Scopes::removes))]
 fn removes_11(row: Row, vmid: u64, asid: u64) -> bool
     ensures { result ≡ removes (TlbiNhAsid vmid asid) row }
 {
     stage_of(row, Kind::Stage1, vmid) & has_asid(row, asid) & !is_global(row)
 }
 
+#[tactic(auto, unfolding(crate::specs::Scopes::removes))]
 fn removes_12(row: Row, vmid: u64, asid: u64, target: Target) -> bool
     ensures { result ≡ removes (TlbiNhVa vmid asid target) row }
 {
@@ -243,18 +250,21 @@ fn removes_12(row: Row, vmid: u64, asid: u64, target: Target) -> bool
         & !spared(row, target.leaf)
 }
 
+#[tactic(auto, unfolding(crate::specs::Scopes::removes))]
 fn removes_13(row: Row, vmid: u64, target: Target) -> bool
     ensures { result ≡ removes (TlbiNhVaa vmid target) row }
 {
     stage_at(row, Kind::Stage1, vmid, target) & !spared(row, target.leaf)
 }
 
+#[tactic(auto, unfolding(crate::specs::Scopes::removes))]
 fn removes_20(row: Row) -> bool
     ensures { result ≡ removes TlbiEl2All row }
 {
     own_of(row)
 }
 
+#[tactic(auto, unfolding(crate::specs::Scopes::removes))]
 fn removes_21(row: Row, asid: u64) -> bool
     ensures { result ≡ removes (TlbiEl2Asid asid) row }
 {
@@ -262,6 +272,7 @@ fn removes_21(row: Row, asid: u64) -> bool
 }
 
 // An EL2 row has no ASID to compare.
+#[tactic(auto, unfolding(crate::specs::Scopes::removes))]
 fn removes_22(row: Row, asid: u64, target: Target) -> bool
     ensures { result ≡ removes (TlbiEl2Va asid target) row }
 {
@@ -270,18 +281,21 @@ fn removes_22(row: Row, asid: u64, target: Target) -> bool
         & !spared(row, target.leaf)
 }
 
+#[tactic(auto, unfolding(crate::specs::Scopes::removes))]
 fn removes_23(row: Row, target: Target) -> bool
     ensures { result ≡ removes (TlbiEl2Vaa target) row }
 {
     own_at(row, target) & !spared(row, target.leaf)
 }
 
+#[tactic(auto, unfolding(crate::specs::Scopes::removes))]
 fn removes_28(row: Row, vmid: u64) -> bool
     ensures { result ≡ removes (TlbiS12Vmall vmid) row }
 {
     stage_of(row, Kind::Stage1, vmid) | stage_of(row, Kind::Stage2, vmid)
 }
 
+#[tactic(auto, unfolding(crate::specs::Scopes::removes))]
 fn removes_2a(row: Row, vmid: u64, target: Target) -> bool
     ensures { result ≡ removes (TlbiS2Ipa vmid target) row }
 {
@@ -298,6 +312,7 @@ fn removes_30(row: Row) -> bool
 }
 
 // Whether a row is one of those that the table names for a command.
+#[tactic(auto, unfolding(crate::specs::Scopes::removes))]
 fn removes(c: Command, row: Row) -> bool
     ensures { result ≡ removes c row }
 {
@@ -332,6 +347,7 @@ fn narrow(wide: bool, id: u64) -> bool
 }
 
 // Whether no row need be looked at, by the code or since an identifier is too wide.
+#[tactic(auto, unfolding(crate::specs::Scopes::too_wide, crate::specs::Scopes::idle))]
 pub fn idle(f: Features, c: Command) -> bool
     ensures { result ≡ idle f c }
 {

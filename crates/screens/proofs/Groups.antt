@@ -2,7 +2,7 @@
 -- Assumes nothing.
 use Rattle.std.proofs.Common.{◌≡◌, ℕ, ◌+◌, ◌-◌, ◌<◌, ◌≤◌, Bool, true, false, ◌&&◌, ◌||◌, sym, refl, ◌∙◌, ⊎_elim, arith}
 use Rattle.std.specs.Prelude.{None}
-use Rattle.words.proofs.Search.{Searching, Wider, is_none, over_none}
+use Rattle.words.proofs.Search.{Searching, is_none, over_none}
 use Rattle.words.proofs.Truth.{less_or_not}
 use Rattle.screens.specs.Screens.{lowest_from, any_four, NoneOfEight, Skips}
 
@@ -39,9 +39,6 @@ four-off p i e j a b =
     third : p (i + 3) ≡ false
     third = nor ((p i || p (i + 1)) || p (i + 2)) (p (i + 3)) e
 
-pub begins : {p : ℕ → Bool} {from to : ℕ} → from ≤ to → Skips p from to from
-begins h = record { least = omega arith; most = h; none = λ j a b. absurd (omega arith) }
-
 -- eight more
 pub none_of_eight : {p : ℕ → Bool} {i : ℕ} {a b : Bool} → a ≡ any_four p i → b ≡ any_four p (i + 4) → (a || b) ≡ false → NoneOfEight p i
 none_of_eight {p} {i} {a} {b} e g f =
@@ -66,19 +63,12 @@ never_both : (b : Bool) → (b && false) ≡ false
 never_both true = refl
 never_both false = refl
 
-pub first_off : (p q : ℕ → Bool) {i : ℕ} → NoneOfEight p i → NoneOfEight (λ j. p j && q j) i
-first_off p q off = record { none = λ j n m. rw (off.none j n m) refl }
-
 pub second-off : (p q : ℕ → Bool) {i : ℕ} → NoneOfEight q i → NoneOfEight (λ j. p j && q j) i
 second-off p q off = record { none = λ j n m. rw (off.none j n m) (never_both (p j)) }
 
 -- behind them a search goes on
 pub resumes : {p : ℕ → Bool} {from to r : ℕ} → from ≤ to → Skips p from to r → Searching p to (lowest_from p from to) r
 resumes {p} {from} {to} {r} h s = over_none r (record { within = h; same = refl }) s.least s.most s.none
-
--- two tests, the first of which is the wider one
-pub narrowed : (q r : ℕ → Bool) (n : ℕ) → Wider (λ j. q j && r j) q n n
-narrowed q r n = record { most = omega arith; narrows = λ j h e. rw e; behind = λ j a b. absurd (omega arith) }
 
 pub both-are : (a b : Bool) {x : Bool} → a ≡ true → b ≡ x → (a && b) ≡ x
 both-are a b e g = rw e g

@@ -1,5 +1,4 @@
 pub mod Answerers
-pub mod Asking
 pub mod Distances
 pub mod Fields
 mod Groups

@@ -33,7 +33,7 @@ pub fn eight<T: RowTest>(kept: &[u64], test: &T, i: usize) -> bool
     four(kept, test, i) | four(kept, test, i + 4)
 }
 
-// Goes past numbers, eight at a time, of which none may pass.
+// Goes past numbers, eight at a time, of which none may pass. A `while`, since over numbers of groups it would be no plainer.
 pub fn skip<F: Fn(usize) -> bool>(from: usize, to: usize, may_pass: F) -> usize
     requires order { from ≤ to }
     requires may_pass { (i : ℕ) → from ≤ i → i + 8 ≤ to → F.pre may_pass i }
