@@ -133,6 +133,11 @@ def stores():
     expect('a step may not store twice', len(writes.wrong('stores', step.replace('= 0;', '= 0;\n    kept[0] = 1;'))) == 1)
     bounded = step.replace('fn step(', "fn step<'a, T: Into<u64>, F: Fn(usize) -> bool>(passes: F, ")
     expect('a function with bounds is seen', len(writes.wrong('image', bounded)) == 1 and bounded != step)
+    nested = 'fn go(kept: &mut [u64]) -> [[u64; 2]; 3]\n{\n    kept[0] = 1;\n}\n'
+    expect('a function that answers arrays of arrays is seen', len(writes.wrong('image', nested)) == 1)
+    method = 'trait Tells {\n    fn reply(self) -> [[u64; 2]; 3]\n        ensures { result ≡ reply self };\n}\n\n'
+    expect('a method without a body is passed over', writes.wrong('image', method) == [])
+    expect('and what stands behind it is seen', len(writes.wrong('image', method + nested)) == 1)
     expect('a run may not store', len(writes.wrong('runs', step.replace('fn step', 'pub fn go'))) == 1)
     expect('nor add to a word', len(writes.wrong('runs', step.replace('fn step', 'pub fn go').replace('] = 0', '] += 1'))) == 1)
     expect('reading and comparing is free', writes.wrong('runs', 'fn go(kept: &mut [u64]) -> bool\n{\n    kept[0] == 1\n}\n') == [])

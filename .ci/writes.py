@@ -60,8 +60,11 @@ def functions(text):
         # the clauses of a contract have braces of their own, each after requires or ensures
         while True:
             opened = text.index('{', at)
-            # a trait's method that it leaves to its impls has no body
-            declared = ';' in re.sub(r'\[[^\]]*\]', '', text[at:opened])
+            # a trait's method that it leaves to its impls has no body; the length of an array is no end of a declaration
+            ahead, arrays = text[at:opened], 1
+            while arrays:
+                ahead, arrays = re.subn(r'\[[^\[\]]*\]', '', ahead)
+            declared = ';' in ahead
             if declared:
                 break
             clause = re.search(r'(requires|ensures|ghost)\b[^{}]*$', text[at:opened])
