@@ -59,12 +59,12 @@ def functions(text):
         params = text[found.end():at - 1]
         # the clauses of a contract have braces of their own, each after requires or ensures
         while True:
-            opened = text.index('{', at)
+            opened = text.find('{', at)
             # a trait's method that it leaves to its impls has no body; the length of an array is no end of a declaration
             ahead, arrays = text[at:opened], 1
             while arrays:
                 ahead, arrays = re.subn(r'\[[^\[\]]*\]', '', ahead)
-            declared = ';' in ahead
+            declared = opened < 0 or ';' in ahead
             if declared:
                 break
             clause = re.search(r'(requires|ensures|ghost)\b[^{}]*$', text[at:opened])
