@@ -169,8 +169,14 @@ def choosing():
         ('an exchange', 'otherwise than by a plain store', (WORD, '  %r4 = atomicrmw xchg ptr %r3, i64 %a1 seq_cst, align 8\n')),
         ('no function of that name', 'put is not there', ('define internal void @"unit::parts::put"(ptr noundef %a0, i64 noundef %a1) #0 {', 'define internal void @"unit::puts"(ptr noundef %a0, i64 noundef %a1) #0 {\n'), (WORD, '')),
         ('two of that name', 'mark is there twice', (named % 'tell', named % 'more::mark' + '\n')),
+        ('one of two types that stores more', 'mark writes 2 times', (named % 'tell', named % 'mark::<a>' + '\n'), (MARK, MARK + '\n' + MARK + '\n')),
+        ('a store to lent memory for two types', 'put is there twice', (named % 'tell', named % 'put::<a>' + '\n')),
     ]:
         refused(what, reason, volatile.chosen, turned(PLAIN, *pairs), LENT, OTHER)
+    one = 'define internal void @"unit::mark%s"(ptr noundef %%a0) #0 {'
+    two = turned(PLAIN, (named % 'tell', named % 'mark::<a>' + '\n'), (one % '', one % '::<b>' + '\n'))
+    if volatile.chosen(two, LENT, OTHER) != volatile.chosen(PLAIN, LENT, OTHER):
+        FAILED.append('other memory for two types')
 
 
 def comparing():

@@ -147,18 +147,20 @@ def writing(text):
                 written += [] if to and to.group(1) in own else [number]
             elif re.match(COPY, line):
                 written += [] if re.match(COPY, line).group(1) in own else [None]
-        told.append((key(name), written))
+        told.append((name, written))
     return told
 
 
 def chosen(text, lent, other):
     """The lines of the stores to lent memory, if every function writes as often as the tables say."""
     lines, seen = set(), set()
-    for name, written in writing(text):
+    for whole, written in writing(text):
+        name = key(whole)
         may = lent.get(name, other.get(name, 0))
         if len(written) != may:
             raise Wrong('%s::%s writes %d times beyond its frame, and should %d' % (*name, len(written), may))
-        if may and name in seen:
+        # of a generic function that stores to other memory there is one for each type, and each stores as often
+        if may and name in seen and not (name in other and '::<' in whole):
             raise Wrong('%s::%s is there twice' % name)
         if name in lent and None in written:
             raise Wrong('%s::%s copies to lent memory' % name)
