@@ -4,7 +4,7 @@ A citation is whatever stands between backquotes. It is a path below crates/ or,
 and may name something in that file after a colon:
   words/specs/Parts.antt:part       a definition, theorem or record of a specification or proof file
   words/src/lib.rt:word_at          a function, constant, struct, enum or trait of a source file
-  interface/src/answers.rt:Ran      a type for which a trait is implemented there
+  interface/src/answers.rt:Tells for Ran   that trait's impl for that type
   cases/stdout:length 5             a case, by its label
   words/must-fail/put_at_the_wrong_bit.edit  a file
   words/must-fail/apart_2.edit:power_twice   one of the edits of a file that holds several
@@ -20,7 +20,10 @@ def declares(path, name, text):
     if path.endswith('.antt'):
         pattern = r'^\s*((unfoldable|abbrev|pub) )*(%s( \{[^}]*\})? :|(record|data) %s( |$))' % (quoted, quoted)
     elif path.endswith('.rt'):
-        pattern = r'^\s*((pub )?((extern "C" )?fn|const|struct|enum|trait) |impl [^{]* for (\w+::)*)%s\b' % quoted
+        if ' for ' in name:
+            pattern = r'^impl %s \{' % quoted
+        else:
+            pattern = r'^\s*(pub )?((extern "C" )?fn|const|struct|enum|trait) %s\b' % quoted
     elif path.endswith('.edit'):
         pattern = r'^# %s$' % quoted
     else:

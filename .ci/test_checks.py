@@ -30,13 +30,13 @@ def write(root, path, text, mode='w'):
 def citations():
     with tempfile.TemporaryDirectory() as root:
         write(root, 'crates/a/specs/A.antt', 'unfoldable pub part : ℕ → ℕ\npart w = w\n\npub record Formed (w : ℕ) : Type 0 where\n')
-        write(root, 'crates/a/src/lib.rt', 'pub fn part(w: u64) -> u64\n{ w }\nconst LIMIT: u64 = 8;\n')
+        write(root, 'crates/a/src/lib.rt', 'pub fn part(w: u64) -> u64\n{ w }\nconst LIMIT: u64 = 8;\n\nimpl Tells for low::Part {\n}\n')
         write(root, 'crates/a/stdout', 'length 5: accepted\n')
         write(root, 'crates/a/must-fail/apart_1.edit', '# part_wide\nrefuses: part\nfile: src/lib.rt\nold: w\nnew: v\n')
         write(root, 'README.md', 'text')
-        there = '`a/specs/A.antt:part` `a/specs/A.antt:Formed` `a/src/lib.rt:part` `a/src/lib.rt:LIMIT` `a/stdout:length 5` `README.md` `a/must-fail/apart_1.edit:part_wide`'
+        there = '`a/specs/A.antt:part` `a/specs/A.antt:Formed` `a/src/lib.rt:part` `a/src/lib.rt:LIMIT` `a/src/lib.rt:Tells for low::Part` `a/stdout:length 5` `README.md` `a/must-fail/apart_1.edit:part_wide`'
         expect('citations that are there pass', cited.missing(root, there) == [])
-        for absent in ['a/specs/A.antt:par', 'a/specs/A.antt:w', 'a/src/lib.rt:limit', 'a/stdout:length', 'a/specs/B.antt', 'nothing', 'a/specs', 'a/must-fail/apart_1.edit:part']:
+        for absent in ['a/specs/A.antt:par', 'a/specs/A.antt:w', 'a/src/lib.rt:limit', 'a/src/lib.rt:Part', 'a/src/lib.rt:Tells for Part', 'a/src/lib.rt:Tells for high::Part', 'a/src/lib.rt:Asks for low::Part', 'a/stdout:length', 'a/specs/B.antt', 'nothing', 'a/specs', 'a/must-fail/apart_1.edit:part']:
             expect('missing: ' + absent, len(cited.missing(root, 'x\n`%s` y' % absent)) == 1)
         law = 'module _ (m : ℕ) where\n  pub holds : m ≡ m\n  holds = refl\n\npub record R : Type 0 where\n  pub field : ℕ\n'
         write(root, 'crates/a/proofs/A.antt', law + '\npub also : (n : ℕ) → n ≡ n\nalso n = refl\n')
