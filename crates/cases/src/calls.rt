@@ -1,6 +1,5 @@
 // The calls that a line asks for, and what they tell. A call that may store also tells every word afterwards of what it stores to.
-use script::{Call, Line, Listed, Refusal, World, accepted};
-use std::alloc::AllocError;
+use script::{Call, Listed, Refusal, World, accepted};
 use std::io::Write;
 use std::{fmt, io};
 
@@ -15,9 +14,8 @@ pub enum Step {
 }
 
 impl Step {
-    pub fn of(line: &Line) -> Result<Self, AllocError> {
-        let w = line.words::<8>()?;
-        Ok(match line.letter {
+    pub fn of(letter: u8, w: [u64; 8]) -> Self {
+        match letter {
             b'c' => Step::State,
             b'b' => Step::Check(Batches {
                 features: w[0],
@@ -28,8 +26,8 @@ impl Step {
                 features: w[0],
                 allowance: w[1],
             }),
-            _ => Step::Call(Call::of(line)?),
-        })
+            _ => Step::Call(Call::of(letter, w)),
+        }
     }
 
     pub fn make(self, out: &mut impl Write, world: World<'_>) -> io::Result<()> {

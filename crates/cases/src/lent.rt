@@ -1,6 +1,8 @@
 // What the calls are made on, as the lines before them left it.
-use script::{Line, World};
+use script::{Digits, World};
 use std::alloc::{AllocError, Global};
+use std::io;
+use std::io::Read;
 
 // One row more than the most in either table, and one byte more than the longest queue.
 const WORDS: usize = 5 + 4 * image::MAX_ROWS;
@@ -28,38 +30,51 @@ impl Lent {
         })
     }
 
-    pub fn start_kept(&mut self, line: &Line) -> Result<(), AllocError> {
-        let mut kept = Vec::new(self.alloc);
-        line.add_to(&mut kept, WORDS)?;
+    pub fn start_kept(&mut self, digits: Digits<'_, impl Read + Drop>) -> io::Result<()> {
+        let mut kept = self.emptied();
+        digits.add_to(&mut kept, WORDS)?;
         self.kept = Some(kept);
         Ok(())
     }
 
-    pub fn add_row(&mut self, line: &Line) -> Result<(), AllocError> {
-        match &mut self.kept {
-            Some(kept) => line.add_to(kept, WORDS),
-            None => Ok(()),
+    // The kept memory's own Vec, so that a line need not grow another.
+    fn emptied(&mut self) -> Vec<u64> {
+        match self.kept.take() {
+            Some(mut kept) => {
+                kept.clear();
+                kept
+            }
+            None => Vec::new(self.alloc),
         }
     }
 
-    pub fn zero_kept(&mut self, line: &Line) -> Result<(), AllocError> {
-        let w = line.words::<8>()?;
+    pub fn add_row(&mut self, digits: Digits<'_, impl Read + Drop>) -> io::Result<()> {
+        match &mut self.kept {
+            Some(kept) => digits.add_to(kept, WORDS),
+            None => digits.pass(),
+        }
+    }
+
+    pub fn zero_kept(&mut self, digits: Digits<'_, impl Read + Drop>) -> io::Result<()> {
+        let w = digits.words::<8>()?;
         let n = w[0] as usize;
-        self.kept = if n <= WORDS {
-            Some(vec![in self.alloc; 0; n]?)
-        } else {
-            None
-        };
+        let mut kept = self.emptied();
+        if n <= WORDS {
+            kept.resize(n, 0)?;
+            self.kept = Some(kept);
+        }
         Ok(())
     }
 
-    pub fn start_table(&mut self, line: &Line) -> Result<(), AllocError> {
+    pub fn start_table(&mut self, digits: Digits<'_, impl Read + Drop>) -> io::Result<()> {
         self.table.clear();
-        line.add_to(&mut self.table, TABLE)
+        digits.add_to(&mut self.table, TABLE)
     }
 
-    pub fn start_queue(&mut self, line: &Line) -> Result<(), AllocError> {
-        self.queue = line.queue(BYTES)?;
+    pub fn start_queue(&mut self, digits: Digits<'_, impl Read + Drop>) -> io::Result<()> {
+        // the one before goes first, so that there are never two
+        self.queue = None;
+        self.queue = digits.queue(BYTES)?;
         Ok(())
     }
 

@@ -28,20 +28,21 @@ fn all(alloc: Global, lines: &mut Lines<impl Read + Drop>, out: &mut impl Write)
             break;
         };
         match line.letter {
-            b'k' => lent.start_kept(&line)?,
-            b'+' => lent.add_row(&line)?,
-            b'z' => lent.zero_kept(&line)?,
-            b's' => lent.start_table(&line)?,
-            b'q' => lent.start_queue(&line)?,
-            _ => call(&line, &mut *out, &mut lent)?,
+            b'k' => lent.start_kept(line.pass()?)?,
+            b'+' => lent.add_row(line.pass()?)?,
+            b'z' => lent.zero_kept(line.pass()?)?,
+            b's' => lent.start_table(line.pass()?)?,
+            b'q' => lent.start_queue(line.pass()?)?,
+            _ => call(line, &mut *out, &mut lent)?,
         }
     }
     Ok(())
 }
 
-fn call(line: &Line, out: &mut impl Write, lent: &mut Lent) -> io::Result<()> {
-    line.tell(&mut *out)?;
-    let step = Step::of(line)?;
+fn call(line: Line<'_, impl Read + Drop>, out: &mut impl Write, lent: &mut Lent) -> io::Result<()> {
+    let letter = line.letter;
+    let words = line.tell(&mut *out, "")?.words()?;
+    let step = Step::of(letter, words);
     match lent.world() {
         Some(world) => step.make(&mut *out, world),
         None => Ok(()),

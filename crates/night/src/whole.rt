@@ -9,6 +9,9 @@ use std::io::{Read, Write};
 // The most calls.
 const CALLS: usize = 24;
 
+// What stands before a line that is told.
+const INDENT: &str = "  ";
+
 // The calls with what came of them, the memories before and after, and the stores of all.
 #[derive(Drop)]
 pub struct Whole {
@@ -24,81 +27,85 @@ pub fn play(
     lines: &mut Lines<impl Read + Drop>,
     out: &mut impl Write,
 ) -> io::Result<Whole> {
-    let mut start = Memory::new();
-    let mut next = begin(alloc, &mut *lines, &mut *out, &mut start)?;
+    let start = Memory::new();
     let mut whole = Whole {
         calls: Vec::new(alloc),
         start,
         end: start,
         stores: 0,
     };
-    for _ in 0..CALLS {
-        let Some(line) = next else {
-            return Ok(whole);
-        };
-        whole.step(&mut *out, &line)?;
-        next = lines.read()?;
-    }
-    Ok(whole)
-}
-
-// Reads what the night begins with; answers the first call's line.
-fn begin(
-    alloc: Global,
-    lines: &mut Lines<impl Read + Drop>,
-    out: &mut impl Write,
-    memory: &mut Memory,
-) -> io::Result<Option<Line>> {
     let mut kept = Vec::new(alloc);
     for _ in 0..u64::MAX {
         let Some(line) = lines.read()? else {
-            return Ok(None);
+            break;
         };
-        match line.letter {
-            b'k' => {
-                kept.clear();
-                fill(&mut *out, &line, &mut kept, &mut memory.kept)?;
-            }
-            b'+' => fill(&mut *out, &line, &mut kept, &mut memory.kept)?,
-            b's' => fill(&mut *out, &line, &mut Vec::new(alloc), &mut memory.table)?,
-            b'v' => fill(&mut *out, &line, &mut Vec::new(alloc), &mut memory.ring)?,
-            b'q' => fill_queue(&mut *out, &line, &mut *memory)?,
-            _ => return Ok(Some(line)),
+        if whole.calls.len() == CALLS {
+            line.leave();
+            break;
+        }
+        if whole.calls.is_empty() {
+            whole.begin(&mut *out, line, &mut kept)?;
+        } else {
+            whole.step(&mut *out, line)?;
         }
     }
-    Ok(None)
+    Ok(whole)
 }
 
 // Puts a line's words behind those that are given already, and all of them into a memory.
 fn fill(
     out: &mut impl Write,
-    line: &Line,
+    line: Line<'_, impl Read + Drop>,
     given: &mut Vec<u64>,
     memory: &mut [u64],
 ) -> io::Result<()> {
-    tell(&mut *out, line)?;
-    line.add_to(&mut *given, memory.len())?;
+    line.tell(&mut *out, INDENT)?
+        .add_to(&mut *given, memory.len())?;
     for (to, word) in memory.iter_mut().zip(given.iter()) {
         *to = *word;
     }
     writeln!(out, "at the start")
 }
 
-fn fill_queue(out: &mut impl Write, line: &Line, memory: &mut Memory) -> io::Result<()> {
-    tell(&mut *out, line)?;
-    spread(&line.words::<8>()?, &mut memory.queue);
+fn fill_queue(
+    out: &mut impl Write,
+    line: Line<'_, impl Read + Drop>,
+    memory: &mut Memory,
+) -> io::Result<()> {
+    let words = line.tell(&mut *out, INDENT)?.words()?;
+    spread(&words, &mut memory.queue);
     writeln!(out, "at the start")
 }
 
-fn tell(out: &mut impl Write, line: &Line) -> io::Result<()> {
-    write!(out, "  ")?;
-    line.tell(&mut *out)
-}
-
 impl Whole {
-    fn step(&mut self, out: &mut impl Write, line: &Line) -> io::Result<()> {
-        tell(&mut *out, line)?;
-        let made = self.end.make(Call::of(line)?);
+    // A line before the calls, which says what the night begins with, or the first call. Given are the words that the kept memory
+    // has so far.
+    fn begin(
+        &mut self,
+        out: &mut impl Write,
+        line: Line<'_, impl Read + Drop>,
+        given: &mut Vec<u64>,
+    ) -> io::Result<()> {
+        let mut of_line = Vec::new(*given.allocator());
+        match line.letter {
+            b'k' => {
+                given.clear();
+                fill(&mut *out, line, &mut *given, &mut self.start.kept)?;
+            }
+            b'+' => fill(&mut *out, line, &mut *given, &mut self.start.kept)?,
+            b's' => fill(&mut *out, line, &mut of_line, &mut self.start.table)?,
+            b'v' => fill(&mut *out, line, &mut of_line, &mut self.start.ring)?,
+            b'q' => fill_queue(&mut *out, line, &mut self.start)?,
+            _ => return self.step(&mut *out, line),
+        }
+        self.end = self.start;
+        Ok(())
+    }
+
+    fn step(&mut self, out: &mut impl Write, line: Line<'_, impl Read + Drop>) -> io::Result<()> {
+        let letter = line.letter;
+        let words = line.tell(&mut *out, INDENT)?.words()?;
+        let made = self.end.make(Call::of(letter, words));
         let stores = made.stores();
         shown(&mut *out, &made)?;
         writeln!(out, ", stores {stores}")?;

@@ -3,10 +3,9 @@ ghost use Rattle.std.specs.Prelude.{◌≡◌};
 ghost use Rattle.script.specs.Calls.{allowing, is_of_recorder};
 
 use crate::answers::{Answer, Outcome, Refusal, accepted};
-use crate::lines::{Line, store};
+use crate::lines::store;
 use attributes::Attributes;
 use interface::Tells;
-use std::alloc::AllocError;
 
 /// r runs; f fills a row of the kept memory, g one of the second table; d rings with a WR; a acknowledges; p clears the pending
 /// bit; e enables or disables; t translates. Of a recorder w writes a record, o reads the oldest, x acknowledges.
@@ -65,9 +64,9 @@ pub struct World<'a> {
 }
 
 impl Call {
-    pub fn of(line: &Line) -> Result<Self, AllocError> {
-        let w = line.words::<8>()?;
-        Ok(match line.letter {
+    /// The call that a line asks for by its letter and its words.
+    pub fn of(letter: u8, w: [u64; 8]) -> Self {
+        match letter {
             b'r' => Call::Run {
                 features: w[0],
                 allowance: w[1],
@@ -94,7 +93,7 @@ impl Call {
             b'x' => Call::EventAcknowledge,
             b't' => Call::Translate(Access::of(w)),
             _ => Call::Other(Access::of(w)),
-        })
+        }
     }
 
     /// The same call with another allowance, if it has one, and so can end Cut.

@@ -1,7 +1,8 @@
-// Lines of a script: a letter, a space, what the line is about, a colon, and words in hex, each behind a space. They are read as
-// they are asked for, so that there may be as many as one likes.
-use std::alloc::{AllocError, Global};
-use std::io::{BufReader, Read, Write};
+// Lines of a script: a letter, a space, what the line is about, a colon, and words in hex, each behind a space. They are read a
+// byte at a time and none is kept, so that a line may be as long as one likes. Each part is a type, and gives the next once it is
+// read. A line can't be let go with a part unread: what is left of it would be taken for the next line.
+use std::alloc::Global;
+use std::io::{BufRead, BufReader, Read, Write};
 use std::{fmt, io};
 
 /// The lines of an input, which ends at a byte 0 too.
@@ -17,60 +18,87 @@ impl<R: Read + Drop> Lines<R> {
         Ok(Lines { input, alloc })
     }
 
-    pub fn read(&mut self) -> io::Result<Option<Line>> {
+    /// The next line, whose letter alone is read.
+    pub fn read(&mut self) -> io::Result<Option<Line<'_, R>>> {
         let Some(letter) = self.byte()? else {
             return Ok(None);
         };
-        self.byte()?;
-        let about = self.until(b':')?;
-        let digits = self.until(b'\n')?;
         Ok(Some(Line {
             letter,
-            about,
-            digits,
+            lines: self,
         }))
     }
 
     fn byte(&mut self) -> io::Result<Option<u8>> {
-        let mut byte = [0];
-        self.input.read(&mut byte)?;
-        if byte[0] == 0 {
+        let Some(byte) = self.input.fill_buf()?.first().copied() else {
             return Ok(None);
-        }
-        Ok(Some(byte[0]))
+        };
+        self.input.consume(1);
+        Ok(Some(byte).filter(|b| *b != 0))
     }
 
-    // The bytes before one that ends them, or before the input's end.
-    fn until(&mut self, end: u8) -> io::Result<Vec<u8>> {
-        let mut text = Vec::new(self.alloc);
+    // The next byte of a part, or None where the part ends: at the byte that ends it, or with the input.
+    fn byte_before(&mut self, end: u8) -> io::Result<Option<u8>> {
+        Ok(self.byte()?.filter(|b| *b != end))
+    }
+}
+
+/// A line that is read up to its letter.
+pub struct Line<'a, R> {
+    pub letter: u8,
+    lines: &'a mut Lines<R>,
+}
+
+impl<'a, R: Read + Drop> Line<'a, R> {
+    /// Says what the line is about, behind an indent, each byte as it is read.
+    pub fn tell(self, out: &mut impl Write, indent: &str) -> io::Result<Digits<'a, R>> {
+        let Line { letter: _, lines } = self;
+        out.write_all(indent.as_bytes())?;
+        lines.byte()?;
         for _ in 0..u64::MAX {
-            match self.byte()? {
-                Some(b) if b != end => text.push(b)?,
-                _ => break,
+            let Some(b) = lines.byte_before(b':')? else {
+                break;
+            };
+            out.write_all(&[b])?;
+        }
+        out.write_all(b": ")?;
+        Ok(Digits { lines })
+    }
+
+    /// Reads no more of the line, nor of the input: what follows is wanted by nobody.
+    pub fn leave(self) {
+        let Line {
+            letter: _,
+            lines: _lines,
+        } = self;
+    }
+
+    /// Passes over what the line is about.
+    pub fn pass(self) -> io::Result<Digits<'a, R>> {
+        let Line { letter: _, lines } = self;
+        lines.byte()?;
+        for _ in 0..u64::MAX {
+            if lines.byte_before(b':')?.is_none() {
+                break;
             }
         }
-        Ok(text)
+        Ok(Digits { lines })
     }
 }
 
-/// One line, whose words are read once it is known how many there is room for.
-#[derive(Drop)]
-pub struct Line {
-    pub letter: u8,
-    about: Vec<u8>,
-    digits: Vec<u8>,
+/// A line that is read up to its words, which are read once it is known how many there is room for.
+pub struct Digits<'a, R> {
+    lines: &'a mut Lines<R>,
 }
 
-impl Line {
-    /// Says what the line is about.
-    pub fn tell(&self, out: &mut impl Write) -> io::Result<()> {
-        out.write_all(&self.about)?;
-        out.write_all(b": ")
-    }
-
+impl<R: Read + Drop> Digits<'_, R> {
     /// Puts the words behind those that are there, up to a limit: a space begins a word, and a digit goes to the end of the last.
-    pub fn add_to(&self, words: &mut Vec<u64>, limit: usize) -> Result<(), AllocError> {
-        for &b in self.digits.iter() {
+    pub fn add_to(self, words: &mut Vec<u64>, limit: usize) -> io::Result<()> {
+        let Digits { lines } = self;
+        for _ in 0..u64::MAX {
+            let Some(b) = lines.byte_before(b'\n')? else {
+                break;
+            };
             if b != b' ' {
                 if let Some(last) = words.last_mut() {
                     *last = *last << 4 | text::digit(b);
@@ -82,9 +110,20 @@ impl Line {
         Ok(())
     }
 
+    /// Passes over the words.
+    pub fn pass(self) -> io::Result<()> {
+        let Digits { lines } = self;
+        for _ in 0..u64::MAX {
+            if lines.byte_before(b'\n')?.is_none() {
+                break;
+            }
+        }
+        Ok(())
+    }
+
     /// The words, which are N at most, and 0 for those that are not given.
-    pub fn words<const N: usize>(&self) -> Result<[u64; N], AllocError> {
-        let mut given = Vec::new(*self.digits.allocator());
+    pub fn words<const N: usize>(self) -> io::Result<[u64; N]> {
+        let mut given = Vec::new(self.lines.alloc);
         self.add_to(&mut given, N)?;
         let mut words = [0; N];
         for (to, w) in words.iter_mut().zip(given.iter()) {
@@ -95,13 +134,14 @@ impl Line {
 
     /// A queue of so many bytes as the first word says, zero but for the words behind the second, which begin at the place that it
     /// says. None where that is more than a limit.
-    pub fn queue(&self, limit: usize) -> Result<Option<Vec<u8>>, AllocError> {
+    pub fn queue(self, limit: usize) -> io::Result<Option<Vec<u8>>> {
+        let alloc = self.lines.alloc;
         let w = self.words::<8>()?;
         let bytes = w[0] as usize;
         if limit < bytes {
             return Ok(None);
         }
-        let mut queue = vec![in *self.digits.allocator(); 0; bytes]?;
+        let mut queue = vec![in alloc; 0; bytes]?;
         spread(&w, &mut queue);
         Ok(Some(queue))
     }
@@ -149,12 +189,12 @@ mod tests {
         let mut lines = Lines::new(alloc, b"k two: 1f A\nq one: 10 8 102".as_slice())?;
         let mut kept = Vec::new(alloc);
         if let Some(line) = lines.read()? {
-            line.add_to(&mut kept, 5)?;
+            line.pass()?.add_to(&mut kept, 5)?;
         }
         assert_eq!(rt; kept.as_slice(), [0x1f, 0xa].as_slice());
         let mut queue = None;
         if let Some(line) = lines.read()? {
-            queue = line.queue(16)?;
+            queue = line.pass()?.queue(16)?;
         }
         let mut want = [0; 16];
         want[8] = 2;

@@ -2,15 +2,18 @@
 use crate::lent::Lent;
 use script::{Answer, Call, Line, Listed, World, accepted};
 use std::io;
-use std::io::Write;
+use std::io::{Read, Write};
 
 // Longer by a word than the longest slot of a case.
 const ROOM: usize = 40;
 
 // Writes a command into the first bytes of a memory of 0xa5, and tells the words that the slot reaches into.
-pub fn write(line: &Line, out: &mut impl Write, bytes: usize) -> io::Result<()> {
-    line.tell(&mut *out)?;
-    let w = line.words::<17>()?;
+pub fn write(
+    line: Line<'_, impl Read + Drop>,
+    out: &mut impl Write,
+    bytes: usize,
+) -> io::Result<()> {
+    let w = line.tell(&mut *out, "")?.words::<17>()?;
     let mut fields = [0; 16];
     fields.copy_from_slice(&w[1..]);
     let mut room = [0xa5u8; ROOM];
@@ -30,9 +33,12 @@ pub fn write(line: &Line, out: &mut impl Write, bytes: usize) -> io::Result<()> 
 }
 
 // Writes the batch, and tells the kept memory and the queue's slots.
-pub fn write_batch(line: &Line, out: &mut impl Write, lent: &mut Lent) -> io::Result<()> {
-    line.tell(&mut *out)?;
-    let w = line.words::<8>()?;
+pub fn write_batch(
+    line: Line<'_, impl Read + Drop>,
+    out: &mut impl Write,
+    lent: &mut Lent,
+) -> io::Result<()> {
+    let w = line.tell(&mut *out, "")?.words::<8>()?;
     let Some(queue) = &mut lent.queue else {
         return Ok(());
     };
@@ -60,9 +66,12 @@ fn slots(out: &mut impl Write, queue: &[u8]) -> io::Result<()> {
 }
 
 // Runs, and tells the kept memory.
-pub fn run(line: &Line, out: &mut impl Write, lent: &mut Lent) -> io::Result<()> {
-    line.tell(&mut *out)?;
-    let w = line.words::<8>()?;
+pub fn run(
+    line: Line<'_, impl Read + Drop>,
+    out: &mut impl Write,
+    lent: &mut Lent,
+) -> io::Result<()> {
+    let w = line.tell(&mut *out, "")?.words::<8>()?;
     let Some(queue) = &lent.queue else {
         return Ok(());
     };

@@ -1,6 +1,8 @@
 // What the calls are made on, as the lines before them left it.
-use script::Line;
-use std::alloc::{AllocError, Global};
+use script::Digits;
+use std::alloc::Global;
+use std::io;
+use std::io::Read;
 
 // One row more than the most, and one byte more than the longest queue.
 const WORDS: usize = 5 + 4 * image::MAX_ROWS;
@@ -31,33 +33,36 @@ impl Lent {
         }
     }
 
-    pub fn start_kept(&mut self, line: &Line) -> Result<(), AllocError> {
+    pub fn start_kept(&mut self, digits: Digits<'_, impl Read + Drop>) -> io::Result<()> {
         self.kept.clear();
-        self.add_row(line)
+        self.add_row(digits)
     }
 
-    pub fn add_row(&mut self, line: &Line) -> Result<(), AllocError> {
-        line.add_to(&mut self.kept, WORDS)
+    pub fn add_row(&mut self, digits: Digits<'_, impl Read + Drop>) -> io::Result<()> {
+        digits.add_to(&mut self.kept, WORDS)
     }
 
-    pub fn start_queue(&mut self, line: &Line) -> Result<(), AllocError> {
-        self.queue = line.queue(BYTES)?;
+    pub fn start_queue(&mut self, digits: Digits<'_, impl Read + Drop>) -> io::Result<()> {
+        // the one before goes first, so that there are never two
+        self.queue = None;
+        self.queue = digits.queue(BYTES)?;
         Ok(())
     }
 
-    pub fn start_batch(&mut self, line: &Line) -> Result<(), AllocError> {
+    pub fn start_batch(&mut self, digits: Digits<'_, impl Read + Drop>) -> io::Result<()> {
         self.batch.clear();
-        self.add_command(line)
+        self.add_command(digits)
     }
 
     // The words, filled up with zeros to whole commands.
-    pub fn add_command(&mut self, line: &Line) -> Result<(), AllocError> {
-        self.add_words(line)?;
-        self.batch
-            .resize(self.batch.len().next_multiple_of(COMMAND), 0)
+    pub fn add_command(&mut self, digits: Digits<'_, impl Read + Drop>) -> io::Result<()> {
+        self.add_words(digits)?;
+        let words = self.batch.len().next_multiple_of(COMMAND);
+        self.batch.resize(words, 0)?;
+        Ok(())
     }
 
-    pub fn add_words(&mut self, line: &Line) -> Result<(), AllocError> {
-        line.add_to(&mut self.batch, BATCH)
+    pub fn add_words(&mut self, digits: Digits<'_, impl Read + Drop>) -> io::Result<()> {
+        digits.add_to(&mut self.batch, BATCH)
     }
 }

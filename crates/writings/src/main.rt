@@ -30,16 +30,16 @@ fn all(alloc: Global, lines: &mut Lines<impl Read + Drop>, out: &mut impl Write)
             break;
         };
         match line.letter {
-            b'n' => slot = line.words::<8>()?[0] as usize,
-            b'w' => calls::write(&line, &mut *out, slot)?,
-            b'd' => lent.start_batch(&line)?,
-            b'+' => lent.add_command(&line)?,
-            b'-' => lent.add_words(&line)?,
-            b'k' => lent.start_kept(&line)?,
-            b'r' => lent.add_row(&line)?,
-            b'q' => lent.start_queue(&line)?,
-            b'b' => calls::write_batch(&line, &mut *out, &mut lent)?,
-            _ => calls::run(&line, &mut *out, &mut lent)?,
+            b'n' => slot = line.pass()?.words::<8>()?[0] as usize,
+            b'w' => calls::write(line, &mut *out, slot)?,
+            b'd' => lent.start_batch(line.pass()?)?,
+            b'+' => lent.add_command(line.pass()?)?,
+            b'-' => lent.add_words(line.pass()?)?,
+            b'k' => lent.start_kept(line.pass()?)?,
+            b'r' => lent.add_row(line.pass()?)?,
+            b'q' => lent.start_queue(line.pass()?)?,
+            b'b' => calls::write_batch(line, &mut *out, &mut lent)?,
+            _ => calls::run(line, &mut *out, &mut lent)?,
         }
     }
     Ok(())
