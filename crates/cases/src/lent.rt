@@ -24,7 +24,7 @@ impl Lent {
     pub fn new(alloc: Global) -> Result<Self, AllocError> {
         Ok(Lent {
             alloc,
-            kept: Some(Vec::new(alloc)),
+            kept: Some(Vec::with_capacity(alloc, WORDS)?),
             table: vec![in alloc; 0; 2]?,
             queue: Some(Vec::new(alloc)),
         })
@@ -37,7 +37,7 @@ impl Lent {
         Ok(())
     }
 
-    // The kept memory's own Vec, so that a line need not grow another.
+    // The kept memory's own Vec, if it is there: it has had room for all that there may be from the beginning.
     fn emptied(&mut self) -> Vec<u64> {
         match self.kept.take() {
             Some(mut kept) => {

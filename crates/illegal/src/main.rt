@@ -10,13 +10,13 @@ use std::io::{BufWriter, Read, Write};
 // The bytes of the first line, and the most of a queue that are looked at.
 const LINE: usize = 3;
 
-const MOST: u64 = 65536;
+const MOST: usize = 65536;
 
 fn main(rt: HostRuntime) -> io::Result<()> {
     let mut out = BufWriter::new(rt.alloc(), io::writer(&rt))?;
-    let mut input = Vec::new(rt.alloc());
+    let mut input = Vec::with_capacity(rt.alloc(), LINE + MOST)?;
     rt.reader()
-        .take(LINE as u64 + MOST)
+        .take((LINE + MOST) as u64)
         .read_to_end(&mut input)?;
     let (line, queue) = input.split_at(input.len().min(LINE));
     told(&mut out, queue, features_in(line))?;

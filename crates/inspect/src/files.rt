@@ -1,5 +1,5 @@
 // The files of a dump, as bytes and as words.
-ghost use Rattle.std.specs.Prelude.{◌≤◌, IfOk, vec_len};
+ghost use Rattle.std.specs.Prelude.{◌-◌, ◌*◌, ◌≤◌, IfOk, length, vec_len};
 
 use rows::Row;
 use std::alloc::Global;
@@ -109,7 +109,9 @@ pub fn rest_told(out: &mut impl Write, rest: &[u64], bytes: usize) -> io::Result
 }
 
 // The whole rows, or slots, of four words that stand behind the first word, and the words behind them.
-pub fn fours(words: &[u64]) -> (&[[u64; 4]], &[u64]) {
+pub fn fours(words: &[u64]) -> (&[[u64; 4]], &[u64])
+    ensures { 4 * length result.0.now ≤ length words.now - 1 }
+{
     words.get(1..).unwrap_or(&[]).as_chunks()
 }
 

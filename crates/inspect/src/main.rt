@@ -30,7 +30,8 @@ fn main(rt: HostRuntime) -> io::Result<()> {
     out.flush()
 }
 
-// Reads the files. Of one that cannot be read, such as a folder, the system's reason is told, and nothing else is.
+// Reads the files. Of one that cannot be read, such as a folder, the system's reason is told before the next is opened, which may
+// have to be waited for, and nothing else is.
 fn inspect(
     rt: &(impl Files + Eprint + Alloc),
     alloc: Global,
@@ -38,21 +39,21 @@ fn inspect(
     args: Args<'_>,
 ) -> io::Result<()> {
     let kept = files::read_words(rt, alloc, args.kept, files::KEPT);
+    refusal_told(rt, Some(args.kept), &kept)?;
     let queue = args
         .queue
         .map(|name| files::read_bytes(rt, alloc, name, files::QUEUE_READ))
         .transpose();
+    refusal_told(rt, args.queue, &queue)?;
     let table = args
         .table
         .map(|name| files::read_words(rt, alloc, name, files::TABLE))
         .transpose();
+    refusal_told(rt, args.table, &table)?;
     let events = args
         .events
         .map(|name| files::read_words(rt, alloc, name, files::EVENTS))
         .transpose();
-    refusal_told(rt, Some(args.kept), &kept)?;
-    refusal_told(rt, args.queue, &queue)?;
-    refusal_told(rt, args.table, &table)?;
     refusal_told(rt, args.events, &events)?;
     if let (Ok(kept), Ok(queue), Ok(table), Ok(events)) = (kept, queue, table, events) {
         let dump = Dump {

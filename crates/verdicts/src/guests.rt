@@ -7,8 +7,10 @@ use std::io::{Read, Write};
 use std::rt::Files;
 use std::{fmt, fs, io};
 
-// The most bytes of a file that are read: enough for the longest.
-const MOST: u64 = 1 << 18;
+// The bytes that are read at a time, and how often: enough for the longest file.
+const CHUNK: usize = 4096;
+
+const CHUNKS: usize = 64;
 
 pub fn told(rt: &(impl Files + Eprint + Alloc), out: &mut impl Write) -> io::Result<()> {
     let single = Features {
@@ -50,13 +52,30 @@ fn guest_told(
     features: Features,
 ) -> io::Result<()> {
     let path = format!(in rt.alloc(); "{name}.bin")?;
-    let mut queue = Vec::new(rt.alloc());
-    match fs::open(rt, path.as_str()) {
-        Ok(file) => file.take(MOST).read_to_end(&mut queue)?,
+    let mut file = match fs::open(rt, path.as_str()) {
+        Ok(file) => file,
         Err(why) => return text::fail(rt, path.as_str(), &why),
     };
     let mut codes = [Verdicts::default(); 256];
     let mut addresses = Addresses::default();
+    let mut chunk = Vec::with_capacity(rt.alloc(), CHUNK)?;
+    for _ in 0..CHUNKS {
+        chunk.clear();
+        Read::by_ref(&mut file)
+            .take(CHUNK as u64)
+            .read_to_end(&mut chunk)?;
+        count(features, &chunk, &mut codes, &mut addresses);
+    }
+    for (code, verdicts) in codes.iter().enumerate() {
+        if *verdicts != Verdicts::default() {
+            writeln!(out, "  {code:02x}: {verdicts}")?;
+        }
+    }
+    writeln!(out, "  addresses: {addresses}")
+}
+
+// Counts the commands of some whole slots, each at its code.
+fn count(features: Features, queue: &[u8], codes: &mut [Verdicts; 256], addresses: &mut Addresses) {
     let (slots, _) = queue.as_chunks::<16>();
     for bytes in slots {
         let coded = coded_in(bytes);
@@ -65,12 +84,6 @@ fn guest_told(
             addresses.count(coded);
         }
     }
-    for (code, verdicts) in codes.iter().enumerate() {
-        if *verdicts != Verdicts::default() {
-            writeln!(out, "  {code:02x}: {verdicts}")?;
-        }
-    }
-    writeln!(out, "  addresses: {addresses}")
 }
 
 // How many commands of a code are legal, and how many are not, by reason.
