@@ -121,13 +121,22 @@ impl<R: Read + Drop> Digits<'_, R> {
         Ok(())
     }
 
-    /// The words, which are N at most, and 0 for those that are not given.
+    /// The words, which are N at most, and 0 for those that are not given. They need no memory but their own.
     pub fn words<const N: usize>(self) -> io::Result<[u64; N]> {
-        let mut given = Vec::new(self.lines.alloc);
-        self.add_to(&mut given, N)?;
+        let Digits { lines } = self;
         let mut words = [0; N];
-        for (to, w) in words.iter_mut().zip(given.iter()) {
-            *to = *w;
+        let mut given: usize = 0;
+        for _ in 0..u64::MAX {
+            let Some(b) = lines.byte_before(b'\n')? else {
+                break;
+            };
+            if b != b' ' {
+                if let Some(last) = words.get_mut(given.wrapping_sub(1)) {
+                    *last = *last << 4 | text::digit(b);
+                }
+            } else if given < N {
+                given += 1;
+            }
         }
         Ok(words)
     }
