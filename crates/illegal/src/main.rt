@@ -14,19 +14,23 @@ const MOST: usize = 65536;
 
 fn main(rt: HostRuntime) -> io::Result<()> {
     let mut out = BufWriter::new(rt.alloc(), io::writer(&rt))?;
-    let mut input = Vec::with_capacity(rt.alloc(), LINE + MOST)?;
-    rt.reader()
-        .take((LINE + MOST) as u64)
-        .read_to_end(&mut input)?;
-    let (line, queue) = input.split_at(input.len().min(LINE));
-    told(&mut out, queue, features_in(line))?;
+    let features = features_in(rt.reader())?;
+    let mut queue = Vec::with_capacity(rt.alloc(), MOST)?;
+    rt.reader().take(MOST as u64).read_to_end(&mut queue)?;
+    told(&mut out, &queue, features)?;
     out.flush()
 }
 
-// A digit that is missing is 0.
-fn features_in(line: &[u8]) -> Features {
-    let digit = |i: usize| line.get(i).map_or(0, |&b| text::digit(b));
-    commands::features_of(16 * digit(0) + digit(1))
+// Reads the first line, a byte at a time. One that is missing is 0, and its digit too.
+fn features_in(mut input: impl Read + Drop) -> io::Result<Features> {
+    let mut line = [0; LINE];
+    for to in line.iter_mut() {
+        let mut byte = [0];
+        input.read(&mut byte)?;
+        *to = byte[0];
+    }
+    let [high, low, _] = line;
+    Ok(commands::features_of(16 * text::digit(high) + text::digit(low)))
 }
 
 fn told(out: &mut impl Write, queue: &[u8], features: Features) -> io::Result<()> {
