@@ -26,7 +26,7 @@ impl Step {
                 features: w[0],
                 allowance: w[1],
             }),
-            _ => Step::Call(Call::of(letter, w)),
+            _ => Step::Call(Call::from_words(letter, w)),
         }
     }
 

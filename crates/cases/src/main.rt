@@ -9,7 +9,7 @@ mod lent;
 
 use calls::Step;
 use lent::Lent;
-use script::{Line, Lines};
+use script::{Begun, Lines};
 use std::alloc::Global;
 use std::io;
 use std::io::{BufWriter, Read, Write};
@@ -24,7 +24,7 @@ fn main(rt: HostRuntime) -> io::Result<()> {
 fn all(alloc: Global, lines: &mut Lines<impl Read + Drop>, out: &mut impl Write) -> io::Result<()> {
     let mut lent = Lent::new(alloc)?;
     for _ in 0..u64::MAX {
-        let Some(line) = lines.read()? else {
+        let Some(line) = lines.begin()? else {
             break;
         };
         match line.letter {
@@ -39,7 +39,11 @@ fn all(alloc: Global, lines: &mut Lines<impl Read + Drop>, out: &mut impl Write)
     Ok(())
 }
 
-fn call(line: Line<'_, impl Read + Drop>, out: &mut impl Write, lent: &mut Lent) -> io::Result<()> {
+fn call(
+    line: Begun<'_, impl Read + Drop>,
+    out: &mut impl Write,
+    lent: &mut Lent,
+) -> io::Result<()> {
     let letter = line.letter;
     let words = line.tell(&mut *out, "")?.words()?;
     let step = Step::of(letter, words);

@@ -1,7 +1,7 @@
 // The night that stands in the input, a script. k has the control word, + a row behind it; s the words of the second table, v those
 // of the recorder; q the queue. The other letters make a call, whose answer and stores are a line of output.
 use crate::memories::{Made, Memory};
-use script::{Answer, Call, Line, Lines, Outcome, spread};
+use script::{Answer, Begun, Call, Lines, Outcome, spread};
 use std::alloc::Global;
 use std::io;
 use std::io::{Read, Write};
@@ -36,7 +36,7 @@ pub fn play(
     };
     let mut kept = Vec::new(alloc);
     for _ in 0..u64::MAX {
-        let Some(line) = lines.read()? else {
+        let Some(line) = lines.begin()? else {
             break;
         };
         if whole.calls.len() == CALLS {
@@ -55,7 +55,7 @@ pub fn play(
 // Puts a line's words behind those that are given already, and all of them into a memory.
 fn fill(
     out: &mut impl Write,
-    line: Line<'_, impl Read + Drop>,
+    line: Begun<'_, impl Read + Drop>,
     given: &mut Vec<u64>,
     memory: &mut [u64],
 ) -> io::Result<()> {
@@ -69,7 +69,7 @@ fn fill(
 
 fn fill_queue(
     out: &mut impl Write,
-    line: Line<'_, impl Read + Drop>,
+    line: Begun<'_, impl Read + Drop>,
     memory: &mut Memory,
 ) -> io::Result<()> {
     let words = line.tell(&mut *out, INDENT)?.words()?;
@@ -83,7 +83,7 @@ impl Whole {
     fn begin(
         &mut self,
         out: &mut impl Write,
-        line: Line<'_, impl Read + Drop>,
+        line: Begun<'_, impl Read + Drop>,
         given: &mut Vec<u64>,
     ) -> io::Result<()> {
         let mut of_line = Vec::new(*given.allocator());
@@ -102,10 +102,10 @@ impl Whole {
         Ok(())
     }
 
-    fn step(&mut self, out: &mut impl Write, line: Line<'_, impl Read + Drop>) -> io::Result<()> {
+    fn step(&mut self, out: &mut impl Write, line: Begun<'_, impl Read + Drop>) -> io::Result<()> {
         let letter = line.letter;
         let words = line.tell(&mut *out, INDENT)?.words()?;
-        let made = self.end.make(Call::of(letter, words));
+        let made = self.end.make(Call::from_words(letter, words));
         let stores = made.stores();
         shown(&mut *out, &made)?;
         writeln!(out, ", stores {stores}")?;

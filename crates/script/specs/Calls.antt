@@ -1,6 +1,6 @@
--- Which calls have an allowance, and which are made on a recorder.
+-- Which calls have an allowance, and which are made on a recorder, by their letters too.
 -- Assumes nothing.
-use Rattle.std.specs.Prelude.{Bool, true, false, ℕ, Option, Some, None}
+use Rattle.std.specs.Prelude.{Bool, true, false, ℕ, ◌==◌, ◌||◌, Option, Some, None}
 use Rattle.script.specs.declared.calls.Call.{Call}
 use Rattle.script.specs.declared.calls.Call.TheVariants.{Run, Fill, TableFill, Doorbell, Acknowledge, ClearPending, Enable, EventWrite, EventRead, EventAcknowledge, Translate, Other}
 
@@ -32,3 +32,7 @@ is_of_recorder EventRead = true
 is_of_recorder EventAcknowledge = true
 is_of_recorder (Translate _) = false
 is_of_recorder (Other _) = false
+
+-- the letters o, w and x
+abbrev pub asks_recorder : ℕ → Bool
+asks_recorder letter = letter == 111 || letter == 119 || letter == 120

@@ -1,11 +1,12 @@
 // The calls that a line asks for by its letter. They are made through the C interface, but for a transaction's.
-ghost use Rattle.std.specs.Prelude.{◌≡◌};
-ghost use Rattle.script.specs.Calls.{allowing, is_of_recorder};
+ghost use Rattle.std.specs.Prelude.{◌≡◌, IfOk};
+ghost use Rattle.script.specs.Calls.{allowing, asks_recorder, is_of_recorder};
 
 use crate::answers::{Answer, Outcome, Refusal, accepted};
-use crate::lines::store;
+use crate::lines::{Line, store};
 use attributes::Attributes;
 use interface::Tells;
+use std::alloc::AllocError;
 
 /// r runs; f fills a row of the kept memory, g one of the second table; d rings with a WR; a acknowledges; p clears the pending
 /// bit; e enables or disables; t translates. Of a recorder w writes a record, o reads the oldest, x acknowledges.
@@ -64,8 +65,17 @@ pub struct World<'a> {
 }
 
 impl Call {
+    /// The call that a line asks for. Fails where there is no memory for the line's words.
+    pub fn of(line: &Line) -> Result<Self, AllocError>
+        ensures { IfOk result (λ call. is_of_recorder call ≡ asks_recorder line.now.letter) }
+    {
+        Ok(Call::from_words(line.letter, line.words()?))
+    }
+
     /// The call that a line asks for by its letter and its words.
-    pub fn of(letter: u8, w: [u64; 8]) -> Self {
+    pub fn from_words(letter: u8, w: [u64; 8]) -> Self
+        ensures { is_of_recorder result ≡ asks_recorder letter }
+    {
         match letter {
             b'r' => Call::Run {
                 features: w[0],
@@ -203,5 +213,38 @@ impl Access {
         let words = reply.words;
         *answer = words;
         reply.code
+    }
+}
+
+#[cfg(test)]
+mod tests {
+    use super::*;
+    use crate::lines::Lines;
+    use std::io;
+    use std::test::Fail;
+
+    fn next(lines: &mut Lines<&[u8]>) -> io::Result<Option<Call>> {
+        let Some(line) = lines.read()? else {
+            return Ok(None);
+        };
+        Ok(Some(Call::of(&line)?))
+    }
+
+    #[test]
+    fn asks_for_calls(rt: HostRuntime) -> Result<(), Fail> {
+        let script = b"r run: 73 8\ne enable: 1";
+        let mut lines = Lines::new(rt.alloc(), script.as_slice())?;
+        let ran = matches!(
+            next(&mut lines)?,
+            Some(Call::Run {
+                features: 0x73,
+                allowance: 8
+            })
+        );
+        assert_eq!(rt; ran, true);
+        let enabled = matches!(next(&mut lines)?, Some(Call::Enable { on: 1 }));
+        assert_eq!(rt; enabled, true);
+        assert_eq!(rt; next(&mut lines)?.is_none(), true);
+        Ok(())
     }
 }

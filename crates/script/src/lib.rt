@@ -9,4 +9,4 @@ pub use answers::{
     Answer, End, FillEnd, Miss, Outcome, Output, Reason, RecordEnd, Refusal, Run, accepted,
 };
 pub use calls::{Access, Call, World};
-pub use lines::{Digits, Line, Lines, Listed, spread};
+pub use lines::{Begun, Digits, Line, Lines, Listed, spread};

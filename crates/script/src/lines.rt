@@ -1,7 +1,9 @@
-// Lines of a script: a letter, a space, what the line is about, a colon, and words in hex, each behind a space. They are read a
-// byte at a time and none is kept, so that a line may be as long as one likes. Each part is a type, and gives the next once it is
-// read. A line can't be let go with a part unread: what is left of it would be taken for the next line.
-use std::alloc::Global;
+// Lines of a script: a letter, a space, what the line is about, a colon, and words in hex, each behind a space. A line is read whole
+// and kept, as a Line, or a byte at a time with none kept, as a Begun, so that it may be as long as one likes. The parts of a Begun
+// are types, of which each gives the next once it is read, so that what is left of one part isn't taken for the next.
+ghost use Rattle.std.specs.Prelude.{◌<◌, ◌≤◌, IfOk, IfSome, max, vec_len};
+
+use std::alloc::{AllocError, Global};
 use std::io::{BufRead, BufReader, Read, Write};
 use std::{fmt, io};
 
@@ -18,18 +20,40 @@ impl<R: Read + Drop> Lines<R> {
         Ok(Lines { input, alloc })
     }
 
-    /// The next line, whose letter alone is read.
-    pub fn read(&mut self) -> io::Result<Option<Line<'_, R>>> {
+    /// The next line, whole. None at the end of the input. Fails where the input does, and where there is no memory for the line.
+    pub fn read(&mut self) -> io::Result<Option<Line>>
+        ensures letter { IfOk result (λ r. IfSome r (λ line. 0 < line.letter)) }
+    {
+        let alloc = self.alloc;
+        let Some(begun) = self.begin()? else {
+            return Ok(None);
+        };
+        let letter = begun.letter;
+        let mut about = Vec::new(alloc);
+        let digits = begun.tell(&mut about, "")?.keep()?;
+        Ok(Some(Line {
+            letter,
+            about,
+            digits,
+        }))
+    }
+
+    /// The next line, whose letter alone is read. None at the end of the input.
+    pub fn begin(&mut self) -> io::Result<Option<Begun<'_, R>>>
+        ensures letter { IfOk result (λ r. IfSome r (λ line. 0 < line.letter)) }
+    {
         let Some(letter) = self.byte()? else {
             return Ok(None);
         };
-        Ok(Some(Line {
+        Ok(Some(Begun {
             letter,
             lines: self,
         }))
     }
 
-    fn byte(&mut self) -> io::Result<Option<u8>> {
+    fn byte(&mut self) -> io::Result<Option<u8>>
+        ensures above_0 { IfOk result (λ r. IfSome r (λ b. 0 < b)) }
+    {
         let Some(byte) = self.input.fill_buf()?.first().copied() else {
             return Ok(None);
         };
@@ -43,16 +67,70 @@ impl<R: Read + Drop> Lines<R> {
     }
 }
 
+/// A line that is read whole and kept. Its words are read as often as one likes, once it is known how many there is room for.
+#[derive(Drop)]
+pub struct Line {
+    pub letter: u8,
+
+    // with the colon and the space behind it
+    about: Vec<u8>,
+    digits: Vec<u8>,
+}
+
+impl Line {
+    /// Says what the line is about.
+    pub fn tell(&self, out: &mut impl Write) -> io::Result<()> {
+        out.write_all(&self.about)
+    }
+
+    /// Puts the words behind those that are there, up to a limit: a space begins a word, and a digit goes to the end of the last.
+    pub fn add_to(&self, words: &mut Vec<u64>, limit: usize) -> Result<(), AllocError>
+        ensures none_goes { vec_len words.old ≤ vec_len words.new }
+        ensures limit { vec_len words.new ≤ max limit (vec_len words.old) }
+    {
+        for &b in self.digits.iter() {
+            if b != b' ' {
+                if let Some(last) = words.last_mut() {
+                    *last = *last << 4 | text::digit(b);
+                }
+            } else if words.len() < limit {
+                words.push(0)?;
+            }
+        }
+        Ok(())
+    }
+
+    /// The words, which are N at most, and 0 for those that are not given.
+    pub fn words<const N: usize>(&self) -> Result<[u64; N], AllocError> {
+        let mut given = Vec::new(*self.digits.allocator());
+        self.add_to(&mut given, N)?;
+        let mut words = [0; N];
+        for (to, w) in words.iter_mut().zip(given.iter()) {
+            *to = *w;
+        }
+        Ok(words)
+    }
+
+    /// A queue of so many bytes as the first word says, zero but for the words behind the second, which begin at the place that it
+    /// says. None where that is more than a limit.
+    pub fn queue(&self, limit: usize) -> Result<Option<Vec<u8>>, AllocError>
+        ensures limit { IfOk result (λ r. IfSome r (λ bytes. vec_len bytes ≤ limit)) }
+    {
+        let w = self.words::<8>()?;
+        queue_of(*self.digits.allocator(), &w, limit)
+    }
+}
+
 /// A line that is read up to its letter.
-pub struct Line<'a, R> {
+pub struct Begun<'a, R> {
     pub letter: u8,
     lines: &'a mut Lines<R>,
 }
 
-impl<'a, R: Read + Drop> Line<'a, R> {
+impl<'a, R: Read + Drop> Begun<'a, R> {
     /// Says what the line is about, behind an indent, each byte as it is read.
     pub fn tell(self, out: &mut impl Write, indent: &str) -> io::Result<Digits<'a, R>> {
-        let Line { letter: _, lines } = self;
+        let Begun { letter: _, lines } = self;
         out.write_all(indent.as_bytes())?;
         lines.byte()?;
         for _ in 0..u64::MAX {
@@ -67,7 +145,7 @@ impl<'a, R: Read + Drop> Line<'a, R> {
 
     /// Reads no more of the line, nor of the input: what follows is wanted by nobody.
     pub fn leave(self) {
-        let Line {
+        let Begun {
             letter: _,
             lines: _lines,
         } = self;
@@ -75,7 +153,7 @@ impl<'a, R: Read + Drop> Line<'a, R> {
 
     /// Passes over what the line is about.
     pub fn pass(self) -> io::Result<Digits<'a, R>> {
-        let Line { letter: _, lines } = self;
+        let Begun { letter: _, lines } = self;
         lines.byte()?;
         for _ in 0..u64::MAX {
             if lines.byte_before(b':')?.is_none() {
@@ -121,6 +199,19 @@ impl<R: Read + Drop> Digits<'_, R> {
         Ok(())
     }
 
+    // The bytes of the words, as they stand.
+    fn keep(self) -> io::Result<Vec<u8>> {
+        let Digits { lines } = self;
+        let mut kept = Vec::new(lines.alloc);
+        for _ in 0..u64::MAX {
+            let Some(b) = lines.byte_before(b'\n')? else {
+                break;
+            };
+            kept.push(b)?;
+        }
+        Ok(kept)
+    }
+
     /// The words, which are N at most, and 0 for those that are not given. They need no memory but their own.
     pub fn words<const N: usize>(self) -> io::Result<[u64; N]> {
         let Digits { lines } = self;
@@ -146,14 +237,21 @@ impl<R: Read + Drop> Digits<'_, R> {
     pub fn queue(self, limit: usize) -> io::Result<Option<Vec<u8>>> {
         let alloc = self.lines.alloc;
         let w = self.words::<8>()?;
-        let bytes = w[0] as usize;
-        if limit < bytes {
-            return Ok(None);
-        }
-        let mut queue = vec![in alloc; 0; bytes]?;
-        spread(&w, &mut queue);
-        Ok(Some(queue))
+        Ok(queue_of(alloc, &w, limit)?)
     }
+}
+
+// A queue of so many bytes as the first word says, if that is no more than a limit.
+fn queue_of(alloc: Global, w: &[u64; 8], limit: usize) -> Result<Option<Vec<u8>>, AllocError>
+    ensures limit { IfOk result (λ r. IfSome r (λ bytes. vec_len bytes ≤ limit)) }
+{
+    let bytes = w[0] as usize;
+    if limit < bytes {
+        return Ok(None);
+    }
+    let mut queue = vec![in alloc; 0; bytes]?;
+    spread(w, &mut queue);
+    Ok(Some(queue))
 }
 
 /// Zero bytes, but for the words behind the first two, which begin at the place that the second says.
@@ -198,11 +296,34 @@ mod tests {
         let mut lines = Lines::new(alloc, b"k two: 1f A\nq one: 10 8 102".as_slice())?;
         let mut kept = Vec::new(alloc);
         if let Some(line) = lines.read()? {
-            line.pass()?.add_to(&mut kept, 5)?;
+            line.add_to(&mut kept, 5)?;
         }
         assert_eq!(rt; kept.as_slice(), [0x1f, 0xa].as_slice());
         let mut queue = None;
         if let Some(line) = lines.read()? {
+            queue = line.queue(16)?;
+        }
+        let mut want = [0; 16];
+        want[8] = 2;
+        want[9] = 1;
+        assert_eq!(rt;
+            queue.is_some_and(|q| q.as_slice() == want.as_slice()),
+            true
+        );
+        Ok(())
+    }
+
+    #[test]
+    fn begins_lines(rt: HostRuntime) -> Result<(), Fail> {
+        let alloc = rt.alloc();
+        let mut lines = Lines::new(alloc, b"k two: 1f A\nq one: 10 8 102".as_slice())?;
+        let mut kept = Vec::new(alloc);
+        if let Some(line) = lines.begin()? {
+            line.pass()?.add_to(&mut kept, 5)?;
+        }
+        assert_eq!(rt; kept.as_slice(), [0x1f, 0xa].as_slice());
+        let mut queue = None;
+        if let Some(line) = lines.begin()? {
             queue = line.pass()?.queue(16)?;
         }
         let mut want = [0; 16];
@@ -212,6 +333,30 @@ mod tests {
             queue.is_some_and(|q| q.as_slice() == want.as_slice()),
             true
         );
+        Ok(())
+    }
+
+    // Both lines are kept before the first is asked, and are asked more than once.
+    #[test]
+    fn keeps_lines(rt: HostRuntime) -> Result<(), Fail> {
+        let alloc = rt.alloc();
+        let mut lines = Lines::new(alloc, b"k two: 1f A\nr run: 73 8".as_slice())?;
+        let two = lines.read()?;
+        let run = lines.read()?;
+        assert_eq!(rt; lines.read()?.is_none(), true);
+        let mut told = Vec::new(alloc);
+        if let Some(line) = &run {
+            assert_eq!(rt; line.letter, b'r');
+            line.tell(&mut told)?;
+            assert_eq!(rt; line.words()?, [0x73, 8, 0]);
+            assert_eq!(rt; line.words()?, [0x738]);
+        }
+        if let Some(line) = &two {
+            assert_eq!(rt; line.letter, b'k');
+            line.tell(&mut told)?;
+            line.tell(&mut told)?;
+        }
+        assert_eq!(rt; told.as_slice(), b"run: two: two: ".as_slice());
         Ok(())
     }
 }

@@ -1,6 +1,6 @@
 // The calls, through the C interface, what they tell, and what they leave.
 use crate::lent::Lent;
-use script::{Answer, Call, Line, Listed, World, accepted};
+use script::{Answer, Begun, Call, Listed, World, accepted};
 use std::io;
 use std::io::{Read, Write};
 
@@ -9,7 +9,7 @@ const ROOM: usize = 40;
 
 // Writes a command into the first bytes of a memory of 0xa5, and tells the words that the slot reaches into.
 pub fn write(
-    line: Line<'_, impl Read + Drop>,
+    line: Begun<'_, impl Read + Drop>,
     out: &mut impl Write,
     bytes: usize,
 ) -> io::Result<()> {
@@ -34,7 +34,7 @@ pub fn write(
 
 // Writes the batch, and tells the kept memory and the queue's slots.
 pub fn write_batch(
-    line: Line<'_, impl Read + Drop>,
+    line: Begun<'_, impl Read + Drop>,
     out: &mut impl Write,
     lent: &mut Lent,
 ) -> io::Result<()> {
@@ -67,7 +67,7 @@ fn slots(out: &mut impl Write, queue: &[u8]) -> io::Result<()> {
 
 // Runs, and tells the kept memory.
 pub fn run(
-    line: Line<'_, impl Read + Drop>,
+    line: Begun<'_, impl Read + Drop>,
     out: &mut impl Write,
     lent: &mut Lent,
 ) -> io::Result<()> {

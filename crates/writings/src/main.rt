@@ -26,7 +26,7 @@ fn all(alloc: Global, lines: &mut Lines<impl Read + Drop>, out: &mut impl Write)
     let mut lent = Lent::new(alloc);
     let mut slot = 16;
     for _ in 0..u64::MAX {
-        let Some(line) = lines.read()? else {
+        let Some(line) = lines.begin()? else {
             break;
         };
         match line.letter {
