@@ -1,6 +1,6 @@
 // The calls that a line asks for by its letter. They are made through the C interface, but for a transaction's.
-ghost use Rattle.std.specs.Prelude.{◌≡◌, IfOk};
-ghost use Rattle.script.specs.Calls.{allowing, asks_recorder, is_of_recorder};
+ghost use Rattle.std.specs.Prelude.{◌≡◌, ℕ, IfOk, List};
+ghost use Rattle.script.specs.Calls.{access, allowing, asked, is_of_recorder};
 
 use crate::answers::{Answer, Outcome, Refusal, accepted};
 use crate::lines::{Line, store};
@@ -67,14 +67,14 @@ pub struct World<'a> {
 impl Call {
     /// The call that a line asks for. Fails where there is no memory for the line's words.
     pub fn of(line: &Line) -> Result<Self, AllocError>
-        ensures { IfOk result (λ call. is_of_recorder call ≡ asks_recorder line.now.letter) }
+        ensures { IfOk result (λ call. (w : List ℕ) × (call ≡ asked line.now.letter w)) }
     {
         Ok(Call::from_words(line.letter, line.words()?))
     }
 
     /// The call that a line asks for by its letter and its words.
     pub fn from_words(letter: u8, w: [u64; 8]) -> Self
-        ensures { is_of_recorder result ≡ asks_recorder letter }
+        ensures { result ≡ asked letter w }
     {
         match letter {
             b'r' => Call::Run {
@@ -190,7 +190,9 @@ impl Call {
 }
 
 impl Access {
-    fn of(w: [u64; 8]) -> Self {
+    fn of(w: [u64; 8]) -> Self
+        ensures { result ≡ access w }
+    {
         Access {
             stream: w[0],
             substream: w[1],

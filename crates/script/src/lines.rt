@@ -1,6 +1,7 @@
 // Lines of a script: a letter, a space, what the line is about, a colon, and words in hex, each behind a space. A line is read whole
 // and kept, as a Line, or a byte at a time with none kept, as a Begun, so that it may be as long as one likes. The parts of a Begun
-// are types, of which each gives the next once it is read, so that what is left of one part isn't taken for the next.
+// are types, of which each gives the next once it is read, so that what is left of one isn't taken for the next; `leave` alone gives
+// none, and behind it nothing is read.
 ghost use Rattle.std.specs.Prelude.{◌<◌, ◌≤◌, IfOk, IfSome, max, vec_len};
 
 use std::alloc::{AllocError, Global};
@@ -24,13 +25,12 @@ impl<R: Read + Drop> Lines<R> {
     pub fn read(&mut self) -> io::Result<Option<Line>>
         ensures letter { IfOk result (λ r. IfSome r (λ line. 0 < line.letter)) }
     {
-        let alloc = self.alloc;
-        let Some(begun) = self.begin()? else {
+        let Some(letter) = self.byte()? else {
             return Ok(None);
         };
-        let letter = begun.letter;
-        let mut about = Vec::new(alloc);
-        let digits = begun.tell(&mut about, "")?.keep()?;
+        self.byte()?;
+        let about = self.until(b':')?;
+        let digits = self.until(b'\n')?;
         Ok(Some(Line {
             letter,
             about,
@@ -65,14 +65,24 @@ impl<R: Read + Drop> Lines<R> {
     fn byte_before(&mut self, end: u8) -> io::Result<Option<u8>> {
         Ok(self.byte()?.filter(|b| *b != end))
     }
+
+    // The bytes before one that ends them, or before the input's end.
+    fn until(&mut self, end: u8) -> io::Result<Vec<u8>> {
+        let mut text = Vec::new(self.alloc);
+        for _ in 0..u64::MAX {
+            let Some(b) = self.byte_before(end)? else {
+                break;
+            };
+            text.push(b)?;
+        }
+        Ok(text)
+    }
 }
 
 /// A line that is read whole and kept. Its words are read as often as one likes, once it is known how many there is room for.
 #[derive(Drop)]
 pub struct Line {
     pub letter: u8,
-
-    // with the colon and the space behind it
     about: Vec<u8>,
     digits: Vec<u8>,
 }
@@ -80,7 +90,8 @@ pub struct Line {
 impl Line {
     /// Says what the line is about.
     pub fn tell(&self, out: &mut impl Write) -> io::Result<()> {
-        out.write_all(&self.about)
+        out.write_all(&self.about)?;
+        out.write_all(b": ")
     }
 
     /// Puts the words behind those that are there, up to a limit: a space begins a word, and a digit goes to the end of the last.
@@ -197,19 +208,6 @@ impl<R: Read + Drop> Digits<'_, R> {
             }
         }
         Ok(())
-    }
-
-    // The bytes of the words, as they stand.
-    fn keep(self) -> io::Result<Vec<u8>> {
-        let Digits { lines } = self;
-        let mut kept = Vec::new(lines.alloc);
-        for _ in 0..u64::MAX {
-            let Some(b) = lines.byte_before(b'\n')? else {
-                break;
-            };
-            kept.push(b)?;
-        }
-        Ok(kept)
     }
 
     /// The words, which are N at most, and 0 for those that are not given. They need no memory but their own.
