@@ -234,7 +234,7 @@ mod tests {
 
     #[test]
     fn asks_for_calls(rt: HostRuntime) -> Result<(), Fail> {
-        let script = b"r run: 73 8\ne enable: 1";
+        let script = b"r run: 73 8\nt asks: 1 2 3 4 5 6 7";
         let mut lines = Lines::new(rt.alloc(), script.as_slice())?;
         let ran = matches!(
             next(&mut lines)?,
@@ -244,8 +244,22 @@ mod tests {
             })
         );
         assert_eq!(rt; ran, true);
-        let enabled = matches!(next(&mut lines)?, Some(Call::Enable { on: 1 }));
-        assert_eq!(rt; enabled, true);
+        let Some(Call::Translate(access)) = next(&mut lines)? else {
+            return Err(Fail::new("no transaction"));
+        };
+        let Attributes { memattr, sh, hints } = access.attributes;
+        assert_eq!(rt;
+            [
+                access.stream,
+                access.substream,
+                access.address,
+                access.how,
+                memattr,
+                sh,
+                hints
+            ],
+            [1, 2, 3, 4, 5, 6, 7]
+        );
         assert_eq!(rt; next(&mut lines)?.is_none(), true);
         Ok(())
     }

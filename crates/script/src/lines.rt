@@ -1,7 +1,7 @@
 // Lines of a script: a letter, a space, what the line is about, a colon, and words in hex, each behind a space. A line is read whole
-// and kept, as a Line, or a byte at a time with none kept, as a Begun, so that it may be as long as one likes. The parts of a Begun
-// are types, of which each gives the next once it is read, so that what is left of one isn't taken for the next; `leave` alone gives
-// none, and behind it nothing is read.
+// and kept, as a Line, or a byte at a time with none kept, as a Begun, so that it may be as long as one likes. What a Begun is about
+// gives its words, Digits, which have to be used, so that what is left of the one or the other isn't taken for what follows. `leave`
+// lets a line go unread, where nothing more of the input is wanted.
 ghost use Rattle.std.specs.Prelude.{◌<◌, ◌≤◌, IfOk, IfSome, max, vec_len};
 
 use std::alloc::{AllocError, Global};
